@@ -1,0 +1,6 @@
+pub mod Part
+pub mod Tabulate
+pub mod Raster
+pub mod Pairs
+pub mod Count
+pub mod Order

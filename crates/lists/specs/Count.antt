@@ -1,0 +1,9 @@
+-- Counting.
+use Prim.Native.Nat.{ℕ, _+_}
+use mathlib.Core.Bool.{Bool, cond}
+use mathlib.Core.List.{List, [], _∷_}
+
+-- how many elements pass a test
+unfoldable pub count : {A : Type 0} → (A → Bool) → List A → ℕ
+count p [] = 0
+count p (x ∷ xs) = cond (p x) 1 0 + count p xs

@@ -1,0 +1,2 @@
+pub mod Tabulate
+pub mod Count

@@ -1,0 +1,220 @@
+-- Weights into 65,536ths: each is its floor or one more, they add up to the wanted total, and a tap with remainder 0 gets no unit. Assumes nothing.
+use Prim.Native.Nat.{ℕ, suc, _+_, _*_, _≤_, _<_, min}
+use native.Mathlib.Nat.{le-trans, le-of-mul-le-mul-left, lt-of-mul-lt-mul-left, mul-le-mul-left, min-eq-left, eq-or-lt-of-le, div-eq-of-lt-le}
+use native.Mathlib.Omega.{arith}
+use native.Mathlib.Decide.{decLe}
+use mathlib.Core.Path.{_≡_, refl, sym, ap, _∙_}
+use mathlib.Core.Bool.{Bool, true, false, cond, not, _&&_, _||_}
+use mathlib.Core.Logic.{_⊎_, inl, inr, ⊎-elim}
+use mathlib.Core.List.{List, [], _∷_, map, List·Memᴰ}
+use lib.ListN.{length, length-map}
+use lib.Dec.{T, ltb, eqb, ltb→lt, lt→ltb, eqb→eq, eqb-refl, not-T}
+use lib.Arith.{le→nltb}
+use lib.IntN.{ℤ, pos, negsuc, _+ℤ_, _-ℤ_, _*ℤ_}
+use lib.Signed.{ltZ, _<ℤ_, ltZ-yes, <ℤ-irrefl}
+use Rattle.integers.specs.Divide.{floorDiv}
+use Rattle.integers.specs.Sum.{sum, sumℤ}
+use Rattle.integers.proofs.Parts.{Parts, posPart, negPart, parts-ext, add-parts, sub-parts, mul-parts, add-add, add-sub}
+use Rattle.integers.proofs.Order.{<ℤ-trans}
+use Rattle.integers.proofs.Divide.{Divided, divided, Floor, floor-law}
+use Rattle.lists.specs.Count.{count}
+use Rattle.lists.proofs.Count.{Bit, one, none, bit-lt, bit-one, count-mono, count-ext, count-length}
+use Rattle.lists.proofs.Order.{Strict, Settled, served}
+use Rattle.model.specs.Kernel.{Tap, tap, Kernel, total, Rising}
+use Rattle.model.specs.Apportion.{quotient, remainder, wantedTotal, lacking, comesBefore, getsUnit, share, apportion}
+
+-- each weight is its floor or one more
+pub share-floor : (K : Kernel) (t : Tap)
+    → ((share K t) .weight ≡ quotient (K .divisor) t +ℤ pos 0) ⊎ ((share K t) .weight ≡ quotient (K .divisor) t +ℤ pos 1)
+unfolding share tap
+share-floor K t = go (getsUnit K t)
+  where
+    go : (b : Bool) → (quotient (K .divisor) t +ℤ pos (cond b 1 0) ≡ quotient (K .divisor) t +ℤ pos 0) ⊎ (quotient (K .divisor) t +ℤ pos (cond b 1 0) ≡ quotient (K .divisor) t +ℤ pos 1)
+    go true = inr refl
+    go false = inl refl
+
+-- ---- the order of service is strict, and rising offsets settle it
+
+either : (a b c : Bool) → T a ⊎ (T b × T c) → T (a || b && c)
+either true b c h = tt
+either false true c (inr h) = h .1
+either false true c (inl h) = absurd h
+either false false c (inl h) = absurd h
+either false false c (inr h) = absurd (h .0)
+
+or-else : (a b c : Bool) → T (a || b && c) → T a ⊎ (T b × T c)
+or-else true b c h = inl tt
+or-else false true c h = inr (tt, h)
+or-else false false c h = absurd h
+
+module _ (D : ℕ) where
+  -- what the test says
+  abbrev Before : Tap → Tap → Type 0
+  Before s t = (remainder D t < remainder D s) ⊎ ((remainder D s ≡ remainder D t) × (s .offset <ℤ t .offset))
+
+  before-of : (s t : Tap) → T (comesBefore D s t) → Before s t
+  unfolding comesBefore
+  before-of s t h =
+      ⊎-elim
+      (λ a. inl (ltb→lt (remainder D t) (remainder D s) a))
+      (λ b. inr (eqb→eq (remainder D s) (remainder D t) (b .0), ltZ-yes (b .1)))
+      (or-else (ltb (remainder D t) (remainder D s)) (eqb (remainder D s) (remainder D t)) (ltZ (s .offset) (t .offset)) h)
+
+  of-before : (s t : Tap) → Before s t → T (comesBefore D s t)
+  unfolding comesBefore
+  of-before s t h =
+      either (ltb (remainder D t) (remainder D s)) (eqb (remainder D s) (remainder D t)) (ltZ (s .offset) (t .offset))
+      (⊎-elim (λ a. inl (lt→ltb (remainder D t) (remainder D s) a)) (λ b. inr (rw (b .0) (eqb-refl (remainder D t)), b .1 .lt)) h)
+
+  transitive : (x y z : Tap) → Before x y → Before y z → Before x z
+  transitive x y z (inl h) (inl k) = inl (omega arith)
+  transitive x y z (inl h) (inr k) = inl (omega (arith, k .0))
+  transitive x y z (inr h) (inl k) = inl (omega (arith, h .0))
+  transitive x y z (inr h) (inr k) = inr (h .0 ∙ k .0, <ℤ-trans (h .1) (k .1))
+
+  irreflexive : (x : Tap) → Before x x → ⊥
+  irreflexive x (inl h) = omega arith
+  irreflexive x (inr h) = <ℤ-irrefl (h .1)
+
+  strict : Strict (comesBefore D)
+  strict = record {
+    irreflexive = λ x. not-T (comesBefore D x x) (λ h. irreflexive x (before-of x x h));
+    transitive = λ x y z h k. of-before x z (transitive x y z (before-of x y h) (before-of y z k));
+  }
+
+  settle : (s t : Tap) → t .offset <ℤ s .offset → Dec (remainder D s ≤ remainder D t) → Before t s ⊎ Before s t
+  settle s t l (yes h) = ⊎-elim (λ e. inl (inr (sym e, l))) (λ k. inl (inl k)) (eq-or-lt-of-le h)
+  settle s t l (no h) = inr (inl (omega arith))
+
+  settled : (ts : List Tap) → Rising ts → Settled (comesBefore D) ts
+  settled [] r = tt
+  settled (t ∷ ts) r = (
+    (λ s m. ⊎-elim (λ h. inl (of-before t s h)) (λ h. inr (of-before s t h)) (settle s t (r .0 s m) (decLe (remainder D s) (remainder D t)))),
+    settled ts (r .1),
+  )
+
+-- ---- as many units are lacking as there can be receivers, at most
+
+-- how many taps have a remainder
+pub receivers : ℕ → List Tap → ℕ
+receivers D ts = count (λ t. ltb 0 (remainder D t)) ts
+
+module _ (D : ℕ) (hD : 0 < D) where
+  -- D times the quotients and the remainders make 65,536 times the weights
+  whole : (ts : List Tap)
+      → D * posPart (sumℤ (map (quotient D) ts)) + sum (map (remainder D) ts) + 65536 * negPart (total ts) ≡ 65536 * posPart (total ts) + D * negPart (sumℤ (map (quotient D) ts))
+  unfolding sumℤ sum total quotient remainder
+  whole [] = omega arith
+  whole (t ∷ ts) =
+      omega (
+        arith,
+        divided (pos 65536 *ℤ t .weight) D hD .whole,
+        mul-parts (pos 65536) (t .weight),
+        add-parts (t .weight) (sumℤ (map (λ s. s .weight) ts)),
+        ap (λ (n : ℕ). D * n) (add-parts (quotient D t) (sumℤ (map (quotient D) ts)) .sum),
+        whole ts,
+      )
+
+  remainder-small : (t : Tap) → remainder D t < D
+  unfolding remainder
+  remainder-small t = divided (pos 65536 *ℤ t .weight) D hD .small
+
+  remainders-small : (ts : List Tap) → sum (map (remainder D) ts) ≤ D * receivers D ts
+  unfolding sum receivers count
+  remainders-small [] = omega arith
+  remainders-small (t ∷ ts) = go (bit-lt 0 (remainder D t)) (remainders-small ts)
+    where
+      go : {n : ℕ} → Bit (0 < remainder D t) (remainder D t ≤ 0) n → sum (map (remainder D) ts) ≤ D * receivers D ts
+          → remainder D t + sum (map (remainder D) ts) ≤ D * (n + receivers D ts)
+      go (one h) l = omega (arith, remainder-small t)
+      go (none h) l = omega arith
+
+-- L units are lacking: none is owed, and no more than there are taps with a remainder
+pub record Lacking (K : Kernel) (L : ℕ) : Type 0 where
+  pub is : lacking K ≡ pos L
+  pub few : L ≤ receivers (K .divisor) (K .taps)
+
+module _ (K : Kernel) (hD : 0 < K .divisor) where
+  D : ℕ
+  D = K .divisor
+
+  Q : ℤ
+  Q = sumℤ (map (quotient (K .divisor)) (K .taps))
+
+  S : ℤ
+  S = total (K .taps)
+
+  Y : ℤ
+  Y = wantedTotal K
+
+  R : ℕ
+  R = sum (map (remainder (K .divisor)) (K .taps))
+
+  Y-floor : Floor (pos 131072 *ℤ S +ℤ pos D) (2 * D) Y
+  unfolding Y S D wantedTotal
+  Y-floor = floor-law (pos 131072 *ℤ total (K .taps) +ℤ pos (K .divisor)) (2 * K .divisor) (omega arith)
+
+  Q-whole : D * posPart Q + R + 65536 * negPart S ≡ 65536 * posPart S + D * negPart Q
+  unfolding D Q R S
+  Q-whole = whole (K .divisor) hD (K .taps)
+
+  R-small : R ≤ D * receivers D (K .taps)
+  unfolding D R
+  R-small = remainders-small (K .divisor) hD (K .taps)
+
+  high : 2 * posPart Y + 2 * negPart Q ≤ 2 * posPart Q + 2 * negPart Y + 2 * receivers D (K .taps) + 1
+  unfolding D
+  high = le-of-mul-le-mul-left {k = K .divisor} (omega (arith, Y-floor, add-parts (pos 131072 *ℤ S) (pos D), mul-parts (pos 131072) S, Q-whole, R-small)) hD
+
+  low : 2 * posPart Q + 2 * negPart Y + 1 < 2 * posPart Y + 2 * negPart Q + 2
+  unfolding D
+  low = lt-of-mul-lt-mul-left (K .divisor) (omega (arith, Y-floor, add-parts (pos 131072 *ℤ S) (pos D), mul-parts (pos 131072) S, Q-whole))
+
+  gap : Parts (lacking K) (posPart Y + negPart Q) (negPart Y + posPart Q)
+  unfolding lacking Y Q
+  gap = sub-parts (wantedTotal K) (sumℤ (map (quotient (K .divisor)) (K .taps)))
+
+  pub lacking-few : (L : ℕ) × Lacking K L
+  unfolding D
+  lacking-few = go (lacking K) refl gap
+    where
+      go : (z : ℤ) → lacking K ≡ z → Parts z (posPart Y + negPart Q) (negPart Y + posPart Q) → (L : ℕ) × Lacking K L
+      go (pos L) e g = (L, record { is = e; few = omega (arith, high) })
+      go (negsuc L) e g = absurd (omega (arith, low))
+
+  -- the order of service hands out as many units as are lacking
+  units : Rising (K .taps) → pos (count (getsUnit K) (K .taps)) ≡ lacking K
+  unfolding getsUnit receivers
+  units r = go lacking-few
+    where
+      go : (L : ℕ) × Lacking K L → pos (count (getsUnit K) (K .taps)) ≡ lacking K
+      go (L, l) =
+          ap pos
+          (count-ext (getsUnit K) (λ t. ltb (count (λ s. comesBefore (K .divisor) s t) (K .taps)) L) (K .taps) (λ t m. rw (l .is))
+          ∙ served (comesBefore (K .divisor)) (strict (K .divisor)) L (K .taps) (settled (K .divisor) (K .taps) r)
+          ∙ min-eq-left (le-trans (l .few) (count-length (λ t. ltb 0 (remainder (K .divisor) t)) (K .taps))))
+          ∙ sym (l .is)
+
+total-shares : (K : Kernel) (ts : List Tap) → total (map (share K) ts) ≡ sumℤ (map (quotient (K .divisor)) ts) +ℤ pos (count (getsUnit K) ts)
+unfolding total sumℤ count share tap
+total-shares K [] = refl
+total-shares K (t ∷ ts) =
+    rw (total-shares K ts)
+    (add-add (quotient (K .divisor) t) (pos (cond (getsUnit K t) 1 0)) (sumℤ (map (quotient (K .divisor)) ts)) (pos (count (getsUnit K) ts)))
+
+-- the weights add up to the wanted total
+pub apportion-total : (K : Kernel) → 0 < K .divisor → Rising (K .taps) → total (apportion K) ≡ wantedTotal K
+unfolding apportion lacking
+apportion-total K hD r = rw (total-shares K (K .taps), units K hD r) (add-sub (sumℤ (map (quotient (K .divisor)) (K .taps))) (wantedTotal K))
+
+-- a tap with remainder 0 gets no unit: all that have one come before it
+pub no-unit : (K : Kernel) (t : Tap) → 0 < K .divisor → remainder (K .divisor) t ≡ 0 → T (not (getsUnit K t))
+unfolding getsUnit receivers
+no-unit K t hD e = go (lacking-few K hD)
+  where
+    ahead : receivers (K .divisor) (K .taps) ≤ count (λ s. comesBefore (K .divisor) s t) (K .taps)
+    ahead = count-mono (λ s. ltb 0 (remainder (K .divisor) s)) (λ s. comesBefore (K .divisor) s t)
+        (λ s h. of-before (K .divisor) s t (inl (omega (arith, ltb→lt 0 (remainder (K .divisor) s) h)))) (K .taps)
+
+    go : (L : ℕ) × Lacking K L → T (not (getsUnit K t))
+    go (L, l) = rw (l .is) (le→nltb (count (λ s. comesBefore (K .divisor) s t) (K .taps)) L (le-trans (l .few) ahead))

@@ -1,0 +1,10 @@
+pub mod Border
+pub mod Apportion
+pub mod Weighted
+pub mod Window
+pub mod Box
+pub mod Rank
+pub mod Chain
+pub mod Flat
+pub mod Bounds
+pub mod Binomial

@@ -1,0 +1,45 @@
+-- The exact chain. "In whole numbers: an exact plane is numerators over one common denominator N".
+use Prim.Native.Nat.{ℕ, _*_}
+use mathlib.Core.List.{List, [], _∷_}
+use lib.IntN.{ℤ, pos}
+use Rattle.integers.specs.Divide.{clamp}
+use Rattle.integers.specs.Sum.{sum}
+use Rattle.lists.specs.Tabulate.{raster}
+use Rattle.model.specs.Plane.{Plane, Neighbourhood, planeOf, around}
+use Rattle.model.specs.Kernel.{Kernel, weightedSum}
+use Rattle.model.specs.Window.{area, window}
+use Rattle.model.specs.Rank.{smallest}
+use Rattle.model.specs.Stage.{Work, weighted, box, rank, Stage}
+
+-- N "which a weighted stage multiplies by its two D, a box by its area, any other stage by 1"
+unfoldable pub denominator : ℕ → Work → ℕ
+denominator N (weighted across down) = N * (across .divisor * down .divisor)
+denominator N (box r s) = N * area r s
+denominator N (rank r s p) = N
+
+-- the numerator over the new N: "the unflipped double sum with a/D", "the fractional mean", "the p-th smallest fraction"
+unfoldable pub numerator : Work → Neighbourhood → ℤ
+numerator (weighted across down) x = weightedSum (down .taps) (λ j. weightedSum (across .taps) (λ i. pos (x i j)))
+numerator (box r s) x = pos (sum (window r s x))
+numerator (rank r s p) x = pos (smallest p (window r s x))
+
+-- an exact stage. "A border value b enters as b times the N before its stage, and the stage's result is clamped to 0 to 255 times the N after it"
+unfoldable pub exactPlane : ℕ → ℕ → ℕ → Stage → Plane → Plane
+exactPlane W H N t x u v = clamp (255 * denominator N (t .work)) (numerator (t .work) (around (t .border) (t .value * N) W H x u v))
+
+-- the numerators through all stages, from numerators over N
+unfoldable pub exactFrom : ℕ → ℕ → ℕ → List Stage → List ℕ → List ℕ
+exactFrom W H N [] x = x
+exactFrom W H N (t ∷ ts) x = exactFrom W H (denominator N (t .work)) ts (raster (exactPlane W H N t (planeOf W x)) W H)
+
+-- the denominator through all stages
+unfoldable pub denominatorFrom : ℕ → List Stage → ℕ
+denominatorFrom N [] = N
+denominatorFrom N (t ∷ ts) = denominatorFrom (denominator N (t .work)) ts
+
+-- N is "1 for the given samples"
+unfoldable pub exact : ℕ → ℕ → List Stage → List ℕ → List ℕ
+exact W H ts samples = exactFrom W H 1 ts samples
+
+unfoldable pub exactDenominator : List Stage → ℕ
+exactDenominator ts = denominatorFrom 1 ts

@@ -1,0 +1,147 @@
+-- Worked examples. `bench` has the starred cases of 'Bench stills'; `details` pins what those and the tolerance leave open.
+-- A row names the case, what the definitions give for its input, and what they should give. The theorem at the end goes over all rows of both.
+use Prim.Native.Nat.{ℕ, _+_}
+use Prim.Native.String.{String}
+use mathlib.Core.List.{List, [], _∷_, _++_, map}
+use mathlib.Core.Path.{_≡_, refl}
+use lib.IntN.{ℤ, pos, negℤ, _-ℤ_}
+use lib.ListN.{length}
+use Rattle.integers.specs.Divide.{modulo, ceilDiv, clamp}
+use Rattle.integers.specs.Sum.{sum, sumℤ}
+use Rattle.lists.specs.Count.{count}
+use Rattle.lists.specs.Tabulate.{tabulate, raster}
+use Rattle.model.specs.Border.{Border, constant, nearest, mirror, wrap, inside, closest, reflected, supply}
+use Rattle.model.specs.Plane.{planeOf, around, pick}
+use Rattle.model.specs.Kernel.{Kernel, Tap, tap, kernel, weightedSum, total, magnitude}
+use Rattle.model.specs.Binomial.{binomial, pairSums, pascalRow, choose}
+use Rattle.model.specs.Apportion.{apportion, quotient, remainder, wantedTotal, lacking, comesBefore, getsUnit, share}
+use Rattle.model.specs.Weighted.{rowValue, weightedResult}
+use Rattle.model.specs.Window.{area, window}
+use Rattle.model.specs.Box.{boxResult}
+use Rattle.model.specs.Rank.{insert, sort, smallest, rankResult}
+use Rattle.model.specs.Stage.{Work, weighted, box, rank, Stage, stage, written, result, stagePlane}
+use Rattle.model.specs.Tolerance.{tolerance, gain, weightedGrowth, growth, afterStage, toleranceFrom}
+use Rattle.model.specs.Exact.{exact, exactDenominator, denominator, numerator, exactPlane, exactFrom, denominatorFrom}
+
+pub data Answer : Type 0 where
+  samples : List ℕ → Answer
+  weights : List ℤ → Answer
+  tolerances : List ℕ → Answer
+  fractions : ℕ → List ℕ → Answer
+
+pub record Example : Type 0 where
+  pub name : String
+  pub found : Answer
+  pub expected : Answer
+
+unfoldable pub row : String → Answer → Answer → Example
+row n f e = record { name = n; found = f; expected = e }
+
+-- one stage with border value k on a plane of W by H
+unfoldable pub filtered : ℕ → ℕ → Border → ℕ → Work → List ℕ → Answer
+filtered W H b k w plane = samples (written W H (stage b k w ∷ []) plane)
+
+-- exact results on a plane of W by H: the denominator and the numerators
+unfoldable pub exactly : ℕ → ℕ → List Stage → List ℕ → Answer
+exactly W H ts plane = fractions (exactDenominator ts) (exact W H ts plane)
+
+-- the weights in 65,536ths
+unfoldable pub apportioned : Kernel → Answer
+apportioned K = weights (map (λ t. t .weight) (apportion K))
+
+-- T after the first stage alone, the first two, ..; no rule of T looks at the border
+unfoldable pub toleranceOf : List Work → ℕ
+toleranceOf ws = tolerance (map (λ w. stage nearest 0 w) ws)
+
+-- the samples that a row of three, 10 20 40, supplies at columns -5 to 7, with border value 99
+unfoldable pub supplied : Border → Answer
+supplied b = samples (tabulate (λ k. around b 99 3 1 (planeOf 3 (10 ∷ 20 ∷ 40 ∷ [])) 0 0 (pos k -ℤ pos 5) (pos 0)) 13)
+
+-- -n
+unfoldable pub minus : ℕ → ℤ
+minus n = negℤ (pos n)
+
+-- three taps at offsets -1 0 1
+unfoldable pub three : ℕ → ℤ → ℤ → ℤ → Kernel
+three D a b c = kernel D (tap (minus 1) a ∷ tap (pos 0) b ∷ tap (pos 1) c ∷ [])
+
+-- "one vertical tap 1/1 at 0"
+unfoldable pub one : Kernel
+one = kernel 1 (tap (pos 0) (pos 1) ∷ [])
+
+-- "Plane 10 20 40, W 3, H 1, s 0"
+unfoldable pub bench : List Example
+bench =
+    row "binomial r 1: nearest" (filtered 3 1 nearest 0 (weighted (binomial 1) (binomial 0)) (10 ∷ 20 ∷ 40 ∷ [])) (samples (13 ∷ 23 ∷ 35 ∷ []))
+    ∷ row "binomial r 1: constant 0" (filtered 3 1 constant 0 (weighted (binomial 1) (binomial 0)) (10 ∷ 20 ∷ 40 ∷ [])) (samples (10 ∷ 23 ∷ 25 ∷ []))
+    ∷ row "binomial r 1: wrap" (filtered 3 1 wrap 0 (weighted (binomial 1) (binomial 0)) (10 ∷ 20 ∷ 40 ∷ [])) (samples (20 ∷ 23 ∷ 28 ∷ []))
+    ∷ row "binomial r 1: T" (tolerances (toleranceOf (weighted (binomial 1) (binomial 0) ∷ []) ∷ [])) (tolerances (34301 ∷ []))
+    ∷ row "box r 1, nearest" (filtered 3 1 nearest 0 (box 1 0) (10 ∷ 20 ∷ 40 ∷ [])) (samples (13 ∷ 23 ∷ 33 ∷ []))
+    ∷ row "rank r 1, nearest: p 1" (filtered 3 1 nearest 0 (rank 1 0 1) (10 ∷ 20 ∷ 40 ∷ [])) (samples (10 ∷ 10 ∷ 20 ∷ []))
+    ∷ row "rank r 1, nearest: p 2" (filtered 3 1 nearest 0 (rank 1 0 2) (10 ∷ 20 ∷ 40 ∷ [])) (samples (10 ∷ 20 ∷ 40 ∷ []))
+    ∷ row "ratios -1 0 1 over 2, nearest" (filtered 3 1 nearest 0 (weighted (three 2 (minus 1) (pos 0) (pos 1)) one) (10 ∷ 20 ∷ 40 ∷ [])) (samples (5 ∷ 15 ∷ 10 ∷ []))
+    ∷ row "ratios -1 0 1 over 2, on 40 20 10" (filtered 3 1 nearest 0 (weighted (three 2 (minus 1) (pos 0) (pos 1)) one) (40 ∷ 20 ∷ 10 ∷ [])) (samples (0 ∷ 0 ∷ 0 ∷ []))
+    ∷ row "thirds 1 1 1 over 3" (apportioned (three 3 (pos 1) (pos 1) (pos 1))) (weights (pos 21846 ∷ pos 21845 ∷ pos 21845 ∷ []))
+    ∷ row "-1 -1 5 over 3" (apportioned (three 3 (minus 1) (minus 1) (pos 5))) (weights (minus 21845 ∷ minus 21845 ∷ pos 109226 ∷ []))
+    ∷ row "binomial 1,1 then box"
+    (tolerances (toleranceOf (weighted (binomial 1) (binomial 1) ∷ []) ∷ toleranceOf (weighted (binomial 1) (binomial 1) ∷ box 1 1 ∷ []) ∷ []))
+    (tolerances (34811 ∷ 67579 ∷ []))
+    ∷ []
+
+-- taps a and b over D at offsets 0 and 1; a tap alone at 0
+unfoldable pub two : ℕ → ℤ → ℤ → Kernel
+two D a b = kernel D (tap (pos 0) a ∷ tap (pos 1) b ∷ [])
+
+unfoldable pub alone : ℕ → ℤ → Kernel
+alone D a = kernel D (tap (pos 0) a ∷ [])
+
+-- a tap 1/1 one row up
+unfoldable pub above : Kernel
+above = kernel 1 (tap (minus 1) (pos 1) ∷ [])
+
+-- Worked by hand:
+-- mirror: -1 -2 -3 become 0 1 2, and -4 -5 become 3 4, outside too, of which 2 is closest; 3 4 5 become 2 1 0, and 6 7 become -1 -2, of which 0 is closest;
+-- wrap: -5 is 1 modulo 3, and 7 is 1;
+-- box, nearest: the corner (0, 0) has its own row and column twice, (4·10 + 2·20 + 2·30 + 40) / 9 = 20, and 210/9 = 23.3, 240/9 = 26.7, 270/9 = 30 follow;
+-- box, constant 100: each window has the whole plane and five samples of 100, 600/9 = 66.7; box, wrap: the other row and column twice, 10 + 2·20 + 2·30 + 4·40 = 270;
+-- the row above the first is the border value's, or the last row;
+-- 1 and 2 over 3: (10 + 2·40) / 3 = 30. The weights are 21,845 1/3 and 43,690 2/3, and the one unit goes to the second;
+-- halves across and down: (12.5 + 12) / 2 = 12.25, since row values keep their fractions; -1 across and -1 down: the row value -20 is kept;
+-- -1/128 across, -1 down: 63 gives -31.5 64ths, rounded up to -31, and 31/64 is nearest to 0;
+-- two stages: box gives 13 23 33, of whose windows 13 13 23, 13 23 33, 23 33 33 the third is taken;
+-- exact: 50/4 = 12.5; 40/3; the middle one; 10/2 and 30/2; -20/2 and below are clamped; box twice, where the border value 100 enters as 300 thirds.
+unfoldable pub details : List Example
+details =
+    row "constant" (supplied constant) (samples (99 ∷ 99 ∷ 99 ∷ 99 ∷ 99 ∷ 10 ∷ 20 ∷ 40 ∷ 99 ∷ 99 ∷ 99 ∷ 99 ∷ 99 ∷ []))
+    ∷ row "nearest" (supplied nearest) (samples (10 ∷ 10 ∷ 10 ∷ 10 ∷ 10 ∷ 10 ∷ 20 ∷ 40 ∷ 40 ∷ 40 ∷ 40 ∷ 40 ∷ 40 ∷ []))
+    ∷ row "mirror" (supplied mirror) (samples (40 ∷ 40 ∷ 40 ∷ 20 ∷ 10 ∷ 10 ∷ 20 ∷ 40 ∷ 40 ∷ 20 ∷ 10 ∷ 10 ∷ 10 ∷ []))
+    ∷ row "wrap" (supplied wrap) (samples (20 ∷ 40 ∷ 10 ∷ 20 ∷ 40 ∷ 10 ∷ 20 ∷ 40 ∷ 10 ∷ 20 ∷ 40 ∷ 10 ∷ 20 ∷ []))
+    ∷ row "box 1,1 on 10 20 / 30 40, nearest" (filtered 2 2 nearest 0 (box 1 1) (10 ∷ 20 ∷ 30 ∷ 40 ∷ [])) (samples (20 ∷ 23 ∷ 27 ∷ 30 ∷ []))
+    ∷ row "box 1,1 on 10 20 / 30 40, constant 100" (filtered 2 2 constant 100 (box 1 1) (10 ∷ 20 ∷ 30 ∷ 40 ∷ [])) (samples (67 ∷ 67 ∷ 67 ∷ 67 ∷ []))
+    ∷ row "box 1,1 on 10 20 / 30 40, wrap" (filtered 2 2 wrap 0 (box 1 1) (10 ∷ 20 ∷ 30 ∷ 40 ∷ [])) (samples (30 ∷ 27 ∷ 23 ∷ 20 ∷ []))
+    ∷ row "the row above, constant 7" (filtered 1 3 constant 7 (weighted one above) (10 ∷ 20 ∷ 40 ∷ [])) (samples (7 ∷ 10 ∷ 20 ∷ []))
+    ∷ row "the row above, wrap" (filtered 1 3 wrap 0 (weighted one above) (10 ∷ 20 ∷ 40 ∷ [])) (samples (40 ∷ 10 ∷ 20 ∷ []))
+    ∷ row "1 2 over 3 at 0 1" (filtered 2 1 nearest 0 (weighted (two 3 (pos 1) (pos 2)) one) (10 ∷ 40 ∷ [])) (samples (30 ∷ 40 ∷ []))
+    ∷ row "halves at 0 1, across and down" (filtered 2 2 nearest 0 (weighted (two 2 (pos 1) (pos 1)) (two 2 (pos 1) (pos 1))) (12 ∷ 13 ∷ 12 ∷ 12 ∷ [])) (samples (12 ∷ 13 ∷ 12 ∷ 12 ∷ []))
+    ∷ row "-1 across, -1 down" (filtered 1 1 nearest 0 (weighted (alone 1 (minus 1)) (alone 1 (minus 1))) (20 ∷ [])) (samples (20 ∷ []))
+    ∷ row "-1/128 across, -1 down" (filtered 1 1 nearest 0 (weighted (alone 128 (minus 1)) (alone 1 (minus 1))) (63 ∷ [])) (samples (0 ∷ []))
+    ∷ row "box r 1, then rank r 1 p 3" (samples (written 3 1 (stage nearest 0 (box 1 0) ∷ stage nearest 0 (rank 1 0 3) ∷ []) (10 ∷ 20 ∷ 40 ∷ []))) (samples (23 ∷ 33 ∷ 33 ∷ []))
+    ∷ row "exact binomial" (exactly 3 1 (stage nearest 0 (weighted (binomial 1) (binomial 0)) ∷ []) (10 ∷ 20 ∷ 40 ∷ [])) (fractions 4 (50 ∷ 90 ∷ 140 ∷ []))
+    ∷ row "exact box" (exactly 3 1 (stage nearest 0 (box 1 0) ∷ []) (10 ∷ 20 ∷ 40 ∷ [])) (fractions 3 (40 ∷ 70 ∷ 100 ∷ []))
+    ∷ row "exact rank, p 2" (exactly 3 1 (stage nearest 0 (rank 1 0 2) ∷ []) (10 ∷ 20 ∷ 40 ∷ [])) (fractions 1 (10 ∷ 20 ∷ 40 ∷ []))
+    ∷ row "exact -1 0 1 over 2" (exactly 3 1 (stage nearest 0 (weighted (three 2 (minus 1) (pos 0) (pos 1)) one) ∷ []) (10 ∷ 20 ∷ 40 ∷ [])) (fractions 2 (10 ∷ 30 ∷ 20 ∷ []))
+    ∷ row "exact -1 0 1 over 2, on 40 20 10" (exactly 3 1 (stage nearest 0 (weighted (three 2 (minus 1) (pos 0) (pos 1)) one) ∷ []) (40 ∷ 20 ∷ 10 ∷ [])) (fractions 2 (0 ∷ 0 ∷ 0 ∷ []))
+    ∷ row "exact box, then box with constant 100"
+    (exactly 3 1 (stage nearest 0 (box 1 0) ∷ stage constant 100 (box 1 0) ∷ []) (10 ∷ 20 ∷ 40 ∷ []))
+    (fractions 9 (410 ∷ 210 ∷ 470 ∷ []))
+    ∷ []
+
+-- every definition that an example runs through, opened by one name
+opened : Unit {0}
+unfolding modulo ceilDiv clamp sum sumℤ tabulate raster count inside closest reflected supply planeOf pick around tap kernel weightedSum total magnitude pairSums pascalRow choose binomial quotient remainder wantedTotal lacking comesBefore getsUnit share apportion rowValue weightedResult area window boxResult insert sort smallest rankResult stage result stagePlane written gain weightedGrowth growth afterStage toleranceFrom tolerance denominator numerator exactPlane exactFrom denominatorFrom exact exactDenominator row filtered exactly apportioned toleranceOf supplied minus three one two alone above
+opened = tt
+
+-- THE WORKED EXAMPLES HOLD, by computation
+pub examples-hold : map (λ e. e .found) (bench ++ details) ≡ map (λ e. e .expected) (bench ++ details)
+unfolding opened bench details
+examples-hold = refl

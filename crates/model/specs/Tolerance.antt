@@ -1,0 +1,38 @@
+-- The tolerance T, in 65,536ths of a grey level.
+use Prim.Native.Nat.{ℕ, _+_, _*_, _^_, min}
+use mathlib.Core.List.{List, [], _∷_}
+use lib.ListN.{length}
+use Rattle.integers.specs.Divide.{ceilDiv}
+use Rattle.model.specs.Kernel.{Kernel, magnitude}
+use Rattle.model.specs.Stage.{Work, weighted, box, rank, Stage}
+
+-- "g1, g2 .. the two gains times 65,536, rounded up"
+unfoldable pub gain : Kernel → ℕ
+gain K = ceilDiv (65536 * magnitude (K .taps)) (K .divisor)
+
+-- "After a weighted stage, with each quotient rounded up by itself: T' = g1·g2·T/2^32 + g2·(255n+512)/65,536 + m·(255·g1 + 255n + 512)/65,536 + 32,768"
+unfoldable pub weightedGrowth : ℕ → ℕ → ℕ → ℕ → ℕ → ℕ
+weightedGrowth g1 g2 n m T =
+    ceilDiv (g1 * g2 * T) (2 ^ 32)
+    + ceilDiv (g2 * (255 * n + 512)) 65536
+    + ceilDiv (m * (255 * g1 + 255 * n + 512)) 65536
+    + 32768
+
+-- "Box: T + 32,768. Rank: T"
+unfoldable pub growth : Work → ℕ → ℕ
+growth (weighted across down) T = weightedGrowth (gain across) (gain down) (length (across .taps)) (length (down .taps)) T
+growth (box r s) T = T + 32768
+growth (rank r s p) T = T
+
+-- "After each stage T is cut to 16,711,680"
+unfoldable pub afterStage : ℕ → Stage → ℕ
+afterStage T t = min (growth (t .work) T) 16711680
+
+-- T through the stages, from a T before them
+unfoldable pub toleranceFrom : ℕ → List Stage → ℕ
+toleranceFrom T [] = T
+toleranceFrom T (t ∷ ts) = toleranceFrom (afterStage T t) ts
+
+-- "T starts at 0"
+unfoldable pub tolerance : List Stage → ℕ
+tolerance ts = toleranceFrom 0 ts
