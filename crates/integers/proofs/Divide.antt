@@ -1,5 +1,5 @@
 -- Laws of quotients, remainders and the clamp. Assumes nothing.
-use Prim.Native.Nat.{ℕ, suc, _+_, _*_, _-_, _/_, _%_, _<_, _≤_, min}
+use Prim.Native.Nat.{ℕ, suc, _+_, _*_, _-_, _/_, _<_, _≤_}
 use mathlib.Core.Path.{_≡_}
 use native.Mathlib.Nat.{div-add-mod, mod-lt, min-eq-left, lt-of-mul-lt-mul-left}
 use native.Mathlib.Omega.{arith}

@@ -1,5 +1,5 @@
 -- The order of ℤ by parts, so that `omega` works with it. Assumes nothing.
-use Prim.Native.Nat.{ℕ, suc, _+_, _<_}
+use Prim.Native.Nat.{_+_, _<_}
 use native.Mathlib.Omega.{arith}
 use lib.Dec.{T, ltb→lt, lt→ltb}
 use lib.IntN.{ℤ, pos, negsuc}

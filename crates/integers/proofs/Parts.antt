@@ -1,7 +1,7 @@
 -- Laws of ℤ by the positive and the negative part of an integer: z = posPart z - negPart z, and one of the two is 0.
 -- Each law is a fact of ℕ, so that `omega` works with it. Assumes nothing.
 use Prim.Native.Nat.{ℕ, zero, suc, _+_, _*_, _-_, _<_, _≤_}
-use mathlib.Core.Path.{_≡_, refl, sym, ap}
+use mathlib.Core.Path.{_≡_, ap}
 use mathlib.Core.Bool.{Bool, true, false, not, cond}
 use native.Mathlib.Omega.{arith}
 use lib.Dec.{T, ltb, ltb→lt, nltb→le}

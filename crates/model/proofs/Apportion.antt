@@ -1,25 +1,24 @@
 -- Weights into 65,536ths: each is its floor or one more, they add up to the wanted total, and a tap with remainder 0 gets no unit. Assumes nothing.
-use Prim.Native.Nat.{ℕ, suc, _+_, _*_, _≤_, _<_, min}
-use native.Mathlib.Nat.{le-trans, le-of-mul-le-mul-left, lt-of-mul-lt-mul-left, mul-le-mul-left, min-eq-left, eq-or-lt-of-le, div-eq-of-lt-le}
+use Prim.Native.Nat.{ℕ, _+_, _*_, _≤_, _<_}
+use native.Mathlib.Nat.{le-trans, le-of-mul-le-mul-left, lt-of-mul-lt-mul-left, min-eq-left, eq-or-lt-of-le}
 use native.Mathlib.Omega.{arith}
 use native.Mathlib.Decide.{decLe}
 use mathlib.Core.Path.{_≡_, refl, sym, ap, _∙_}
 use mathlib.Core.Bool.{Bool, true, false, cond, not, _&&_, _||_}
 use mathlib.Core.Logic.{_⊎_, inl, inr, ⊎-elim}
-use mathlib.Core.List.{List, [], _∷_, map, List·Memᴰ}
-use lib.ListN.{length, length-map}
+use mathlib.Core.List.{List, [], _∷_, map}
 use lib.Dec.{T, ltb, eqb, ltb→lt, lt→ltb, eqb→eq, eqb-refl, not-T}
 use lib.Arith.{le→nltb}
-use lib.IntN.{ℤ, pos, negsuc, _+ℤ_, _-ℤ_, _*ℤ_}
+use lib.IntN.{ℤ, pos, negsuc, _+ℤ_, _*ℤ_}
 use lib.Signed.{ltZ, _<ℤ_, ltZ-yes, <ℤ-irrefl}
-use Rattle.integers.specs.Divide.{floorDiv}
 use Rattle.integers.specs.Sum.{sum, sumℤ}
-use Rattle.integers.proofs.Parts.{Parts, posPart, negPart, parts-ext, add-parts, sub-parts, mul-parts, add-add, add-sub}
+use Rattle.integers.proofs.Parts.{Parts, posPart, negPart, add-parts, sub-parts, mul-parts, add-add, add-sub}
 use Rattle.integers.proofs.Order.{<ℤ-trans}
-use Rattle.integers.proofs.Divide.{Divided, divided, Floor, floor-law}
+use Rattle.integers.proofs.Divide.{divided, Floor, floor-law}
 use Rattle.lists.specs.Count.{count}
-use Rattle.lists.proofs.Count.{Bit, one, none, bit-lt, bit-one, count-mono, count-ext, count-length}
+use Rattle.lists.proofs.Count.{Bit, one, none, bit-lt, count-mono, count-ext, count-length}
 use Rattle.lists.proofs.Order.{Strict, Settled, served}
+use Rattle.model.specs.Examples
 use Rattle.model.specs.Kernel.{Tap, tap, Kernel, total, Rising}
 use Rattle.model.specs.Apportion.{quotient, remainder, wantedTotal, lacking, comesBefore, getsUnit, share, apportion}
 

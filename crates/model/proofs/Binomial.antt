@@ -1,18 +1,19 @@
 -- Binomial kernels: the rows follow Pascal's rule and add up to 2^n, and a binomial kernel rises and sums to 1. Assumes nothing.
-use Prim.Native.Nat.{ℕ, zero, suc, _+_, _*_, _^_, _≤_, _<_}
+use Prim.Native.Nat.{ℕ, zero, suc, _+_, _*_, _^_, _<_}
 use native.Mathlib.Omega.{arith}
-use mathlib.Core.Path.{_≡_, refl, sym, ap, _∙_}
-use mathlib.Core.List.{List, [], _∷_, map}
+use mathlib.Core.Path.{_≡_, refl, ap, _∙_}
+use mathlib.Core.List.{List, [], _∷_}
 use lib.ListN.{length, getD}
 use lib.Seq.{take-all}
-use lib.IntN.{ℤ, pos, _+ℤ_, _-ℤ_}
+use lib.IntN.{ℤ, pos, _-ℤ_}
 use lib.Signed.{_<ℤ_}
 use Rattle.integers.specs.Sum.{sum, sumℤ}
 use Rattle.integers.proofs.Parts.{sub-parts}
 use Rattle.integers.proofs.Order.{lt-of-parts}
 use Rattle.lists.specs.Tabulate.{tabulate}
 use Rattle.lists.proofs.Tabulate.{tabulate-getD, mem-tabulate}
-use Rattle.model.specs.Kernel.{Tap, tap, Kernel, kernel, total, Rising}
+use Rattle.model.specs.Examples
+use Rattle.model.specs.Kernel.{tap, kernel, total, Rising}
 use Rattle.model.specs.Binomial.{pairSums, pascalRow, choose, binomial}
 
 -- ---- Pascal's rule

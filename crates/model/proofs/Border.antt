@@ -1,14 +1,15 @@
 -- The frame rule: a supplied index lies inside the axis, and inside the axis the rule changes nothing. Assumes nothing.
-use Prim.Native.Nat.{ℕ, suc, _+_, _*_, _-_, _≤_, _<_, min}
-use native.Mathlib.Nat.{mod-lt, mod-eq-of-lt, min-eq-left}
+use Prim.Native.Nat.{ℕ, _<_}
+use native.Mathlib.Nat.{mod-eq-of-lt}
 use native.Mathlib.Omega.{arith}
 use mathlib.Core.Path.{_≡_, refl, ap}
-use mathlib.Core.Bool.{Bool, true, false, cond, not}
+use mathlib.Core.Bool.{Bool, true, false, cond}
 use mathlib.Core.Option.{Option, none, some}
 use lib.Dec.{T, ltb, ltb→lt, lt→ltb}
 use lib.IntN.{ℤ, pos, negsuc}
 use Rattle.integers.proofs.Divide.{divided}
 use Rattle.integers.specs.Divide.{modulo}
+use Rattle.model.specs.Examples
 use Rattle.model.specs.Border.{Border, constant, nearest, mirror, wrap, inside, closest, reflected, supply}
 
 abbrev pub Inside : ℕ → Option ℕ → Type 0

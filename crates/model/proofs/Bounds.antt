@@ -1,8 +1,7 @@
 -- How large T and the sums of a weighted stage can be, at the limits that a recipe keeps: 1 to 31 taps each way, gains of at most 4. Assumes nothing.
-use Prim.Native.Nat.{ℕ, suc, _+_, _*_, _^_, _≤_, _<_, min}
-use native.Mathlib.Nat.{le-trans, mul-le-mul, mul-le-mul-left, mul-le-mul-right, le-of-mul-le-mul-left}
+use Prim.Native.Nat.{ℕ, _+_, _*_, _^_, _≤_, _<_}
+use native.Mathlib.Nat.{mul-le-mul, le-of-mul-le-mul-left}
 use native.Mathlib.Omega.{arith}
-use mathlib.Core.Path.{_≡_, refl}
 use mathlib.Core.List.{List, [], _∷_, map}
 use lib.ListN.{length}
 use lib.IntN.{ℤ, pos, natAbs}
@@ -15,7 +14,7 @@ use Rattle.model.specs.Kernel.{Tap, Kernel, weightedSum, magnitude}
 use Rattle.model.specs.Apportion.{share, apportion}
 use Rattle.model.specs.Weighted.{rowValue}
 use Rattle.model.specs.Stage.{weighted, stage}
-use Rattle.model.specs.Tolerance.{gain, weightedGrowth, growth, afterStage, toleranceFrom, tolerance}
+use Rattle.model.specs.Tolerance.{scaledGain, weightedGrowth, growth, afterStage, toleranceFrom, tolerance}
 use Rattle.model.proofs.Weighted.{near-share, gain-law, abs-weightedSum, abs-row}
 
 -- at most 31 taps, and a gain of at most c
@@ -24,8 +23,8 @@ pub record Limited (c : ℕ) (K : Kernel) : Type 0 where
   pub taps : length (K .taps) ≤ 31
   pub gain : magnitude (K .taps) ≤ c * K .divisor
 
-pub gain-limited : (c : ℕ) (K : Kernel) → Limited c K → gain K ≤ 65536 * c
-unfolding gain
+pub gain-limited : (c : ℕ) (K : Kernel) → Limited c K → scaledGain K ≤ 65536 * c
+unfolding scaledGain
 gain-limited c K l = ceil-least (65536 * magnitude (K .taps)) (K .divisor) (65536 * c) (l .divisor) (omega (arith, l .gain))
 
 -- ---- T of one weighted stage
@@ -69,7 +68,7 @@ magnitude-shares K [] h = omega arith
 magnitude-shares K (t ∷ ts) h = omega (arith, near-magnitude ((share K t) .weight) (t .weight) (near-share K t h), magnitude-shares K ts h)
 
 -- the weights in 65,536ths: |A| adds up to at most g + n
-pub magnitude-apportion : (K : Kernel) → 0 < K .divisor → magnitude (apportion K) ≤ gain K + length (K .taps)
+pub magnitude-apportion : (K : Kernel) → 0 < K .divisor → magnitude (apportion K) ≤ scaledGain K + length (K .taps)
 unfolding apportion
 magnitude-apportion K h = le-of-mul-le-mul-left {k = K .divisor} (omega (arith, magnitude-shares K (K .taps) h, gain-law K h)) h
 

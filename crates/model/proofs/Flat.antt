@@ -1,27 +1,23 @@
 -- "a sum of 1 leave flat areas flat": a flat plane comes out of a weighted stage as it went in, with every border but a differing constant. Assumes nothing.
-use Prim.Native.Nat.{ℕ, zero, suc, _+_, _*_, _/_, _≤_, _<_}
+use Prim.Native.Nat.{ℕ, _+_, _*_, _/_, _≤_, _<_}
 use native.Mathlib.Nat.{div-eq-of-lt-le, mul-comm, one-le-pow}
 use native.Mathlib.Omega.{arith}
 use mathlib.Core.Path.{_≡_, refl, sym, ap, _∙_, fun-ext}
-use mathlib.Core.Logic.{_⊎_, inl, inr}
 use mathlib.Core.List.{List, [], _∷_}
 use mathlib.Core.Option.{Option, none, some}
-use lib.ListN.{length, getD, replicate, getD-replicate, length-replicate}
-use lib.Seq.{ext-getD}
-use lib.IntN.{ℤ, pos, negsuc, _+ℤ_, _*ℤ_, zero-*ℤ}
-use Rattle.integers.specs.Divide.{floorDiv, clamp}
+use lib.ListN.{replicate, getD-replicate}
+use lib.IntN.{ℤ, pos, _+ℤ_, _*ℤ_, zero-*ℤ}
+use Rattle.integers.specs.Divide.{clamp}
 use Rattle.integers.specs.Sum.{sumℤ}
 use Rattle.integers.proofs.Parts.{add-mul}
-use Rattle.integers.proofs.Divide.{clamp-inside}
-use Rattle.lists.specs.Tabulate.{raster}
 use Rattle.lists.proofs.Raster.{place-fits, raster-ext, raster-const}
 use Rattle.model.specs.Border.{Border, constant, nearest, mirror, wrap, supply}
-use Rattle.model.specs.Plane.{Plane, Neighbourhood, planeOf, pick, around}
+use Rattle.model.specs.Plane.{Plane, planeOf, pick, around}
 use Rattle.model.specs.Kernel.{Tap, Kernel, kernel, weightedSum, total, Rising}
 use Rattle.model.specs.Binomial.{binomial}
 use Rattle.model.specs.Apportion.{wantedTotal, apportion}
 use Rattle.model.specs.Weighted.{rowValue, weightedResult}
-use Rattle.model.specs.Stage.{Work, weighted, Stage, stage, result, stagePlane, written}
+use Rattle.model.specs.Stage.{weighted, stage, result, stagePlane, written}
 use Rattle.model.proofs.Border.{Inside, supply-inside}
 use Rattle.model.proofs.Apportion.{apportion-total}
 use Rattle.model.proofs.Binomial.{binomial-rising, binomial-total}

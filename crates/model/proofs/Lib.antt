@@ -1,10 +1,12 @@
+-- What is proved of the definitions. Files that unfold definitions `use` the table of worked examples, so that a wrong
+-- definition is refused by a number of the table before any proof's text.
 pub mod Border
 pub mod Apportion
+pub mod Binomial
+pub mod Flat
 pub mod Weighted
 pub mod Window
 pub mod Box
 pub mod Rank
 pub mod Chain
-pub mod Flat
 pub mod Bounds
-pub mod Binomial

@@ -1,24 +1,25 @@
 -- Weighted work keeps to the tolerance's formula. Assumes nothing.
 -- The error has four parts: what the samples bring, the horizontal weights and the row value's rounding, the vertical weights, and the last rounding.
-use Prim.Native.Nat.{ℕ, suc, _+_, _*_, _/_, _^_, _≤_, _<_}
+use Prim.Native.Nat.{ℕ, _+_, _*_, _/_, _^_, _≤_, _<_}
 use native.Mathlib.Nat.{mul-le-mul, mul-le-mul-left, mul-le-mul-right, le-of-mul-le-mul-left, mul-div-le}
 use native.Mathlib.Omega.{arith}
 use mathlib.Core.Path.{_≡_, refl, ap}
 use mathlib.Core.Bool.{cond}
 use mathlib.Core.List.{List, [], _∷_, map}
 use lib.ListN.{length}
-use lib.IntN.{ℤ, pos, negsuc, natAbs, _+ℤ_, _*ℤ_, *ℤ-zero}
+use lib.IntN.{ℤ, pos, natAbs, _+ℤ_, _*ℤ_, *ℤ-zero}
 use Rattle.integers.specs.Divide.{floorDiv, ceilDiv, clamp}
 use Rattle.integers.specs.Sum.{sum}
-use Rattle.integers.proofs.Parts.{posPart, negPart, add-parts, mul-parts}
+use Rattle.integers.proofs.Parts.{add-parts, mul-parts}
 use Rattle.integers.proofs.Divide.{floor-law, ceil-law}
 use Rattle.integers.proofs.Near.{Near, near-trans, near-mono, near-zero, near-scale, near-rescale, near-add, near-mul, near-mul-bounded, near-round, near-of-abs, abs-of-near, near-clamp}
 use Rattle.lists.proofs.Count.{bit-one}
+use Rattle.model.specs.Examples
 use Rattle.model.specs.Plane.{Neighbourhood}
 use Rattle.model.specs.Kernel.{Tap, tap, Kernel, weightedSum, magnitude}
 use Rattle.model.specs.Apportion.{quotient, getsUnit, share, apportion}
 use Rattle.model.specs.Weighted.{rowValue, weightedResult}
-use Rattle.model.specs.Tolerance.{gain, weightedGrowth}
+use Rattle.model.specs.Tolerance.{scaledGain, weightedGrowth}
 
 -- ---- weighted sums
 
@@ -63,8 +64,8 @@ module _ (K : Kernel) (h : 0 < K .divisor) (f : ℤ → ℤ) {M : ℕ} (b : (i :
   unfolding apportion
   near-apportion = near-shares (K .taps)
 
-pub gain-law : (K : Kernel) → 0 < K .divisor → 65536 * magnitude (K .taps) ≤ K .divisor * gain K
-unfolding gain
+pub gain-law : (K : Kernel) → 0 < K .divisor → 65536 * magnitude (K .taps) ≤ K .divisor * scaledGain K
+unfolding scaledGain
 gain-law K h = ceil-law (65536 * magnitude (K .taps)) (K .divisor) h
 
 -- ---- the row value
@@ -80,7 +81,7 @@ module _ (K : Kernel) (f : ℤ → ℕ) (h : 0 < K .divisor) (b : (i : ℤ) → 
       (omega arith)
 
   -- 1,024 |h| ≤ 255 g1 + 255 n + 512
-  pub abs-row : 1024 * natAbs (rowValue (apportion K) f) ≤ 255 * gain K + 255 * length (K .taps) + 512
+  pub abs-row : 1024 * natAbs (rowValue (apportion K) f) ≤ 255 * scaledGain K + 255 * length (K .taps) + 512
   abs-row = le-of-mul-le-mul-left {k = K .divisor} (omega (arith, whole, gain-law K h)) h
     where
       R : ℤ
@@ -106,10 +107,10 @@ module _ (across down : Kernel) (N T : ℕ) (hD : 0 < across .divisor) (hE : 0 <
   E = down .divisor
 
   g1 : ℕ
-  g1 = gain across
+  g1 = scaledGain across
 
   g2 : ℕ
-  g2 = gain down
+  g2 = scaledGain down
 
   n : ℕ
   n = length (across .taps)
@@ -188,7 +189,7 @@ module _ (across down : Kernel) (N T : ℕ) (hD : 0 < across .divisor) (hE : 0 <
     close : Close (weightedGrowth g1 g2 n m T) (N * (D * E)) (floorDiv (columns +ℤ pos (2 ^ 21)) (2 ^ 22)) (weightedSum (down .taps) exactly)
     close = omega (arith, whole)
 
-    pub weighted-close : Close (weightedGrowth (gain across) (gain down) (length (across .taps)) (length (down .taps)) T) (N * (across .divisor * down .divisor)) (pos (weightedResult across down f))
+    pub weighted-close : Close (weightedGrowth (scaledGain across) (scaledGain down) (length (across .taps)) (length (down .taps)) T) (N * (across .divisor * down .divisor)) (pos (weightedResult across down f))
         (pos (clamp (255 * (N * (across .divisor * down .divisor))) (weightedSum (down .taps) (λ j. weightedSum (across .taps) (λ i. pos (x i j))))))
     unfolding weightedResult columns exactly rows g1 g2 n m D E
     weighted-close = near-clamp 65536 (N * (across .divisor * down .divisor)) 255 _ _ close

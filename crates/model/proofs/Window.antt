@@ -1,13 +1,14 @@
 -- Windows of two neighbourhoods whose samples are pairwise close. Assumes nothing.
-use Prim.Native.Nat.{ℕ, suc, _+_, _*_, _≤_, _<_}
+use Prim.Native.Nat.{ℕ, _+_, _*_, _≤_, _<_}
 use native.Mathlib.Omega.{arith}
 use mathlib.Core.Path.{_≡_, _∙_}
-use mathlib.Core.List.{List, [], _∷_}
+use mathlib.Core.List.{List}
 use lib.ListN.{length}
 use lib.IntN.{ℤ, pos, _-ℤ_}
 use Rattle.integers.specs.Sum.{sum}
 use Rattle.lists.proofs.Raster.{length-raster}
 use Rattle.lists.proofs.Pairs.{Pairs, none, more, pairs-raster}
+use Rattle.model.specs.Examples
 use Rattle.model.specs.Plane.{Neighbourhood}
 use Rattle.model.specs.Window.{area, window}
 

@@ -1,5 +1,5 @@
 -- The frame rule on one axis of length n, columns or rows: the index inside that is supplied for any index.
-use Prim.Native.Nat.{ℕ, suc, _*_, _-_, min}
+use Prim.Native.Nat.{ℕ, _*_, _-_, min}
 use mathlib.Core.Bool.{cond}
 use mathlib.Core.Option.{Option, none, some}
 use lib.Dec.{ltb}

@@ -6,12 +6,12 @@ use Rattle.integers.specs.Divide.{clamp}
 use Rattle.integers.specs.Sum.{sum}
 use Rattle.lists.specs.Tabulate.{raster}
 use Rattle.model.specs.Plane.{Plane, Neighbourhood, planeOf, around}
-use Rattle.model.specs.Kernel.{Kernel, weightedSum}
+use Rattle.model.specs.Kernel.{weightedSum}
 use Rattle.model.specs.Window.{area, window}
 use Rattle.model.specs.Rank.{smallest}
 use Rattle.model.specs.Stage.{Work, weighted, box, rank, Stage}
 
--- N "which a weighted stage multiplies by its two D, a box by its area, any other stage by 1"
+-- N "which a weighted stage multiplies by its two D (2^35 each for reals, 2^(2r) and 2^(2s) for a binomial), a box by its area, any other stage by 1"
 unfoldable pub denominator : ℕ → Work → ℕ
 denominator N (weighted across down) = N * (across .divisor * down .divisor)
 denominator N (box r s) = N * area r s

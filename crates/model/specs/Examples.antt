@@ -1,18 +1,17 @@
 -- Worked examples. `bench` has the starred cases of 'Bench stills'; `details` pins what those and the tolerance leave open.
 -- A row names the case, what the definitions give for its input, and what they should give. The theorem at the end goes over all rows of both.
-use Prim.Native.Nat.{ℕ, _+_}
+use Prim.Native.Nat.{ℕ, _^_}
 use Prim.Native.String.{String}
 use mathlib.Core.List.{List, [], _∷_, _++_, map}
 use mathlib.Core.Path.{_≡_, refl}
 use lib.IntN.{ℤ, pos, negℤ, _-ℤ_}
-use lib.ListN.{length}
 use Rattle.integers.specs.Divide.{modulo, ceilDiv, clamp}
 use Rattle.integers.specs.Sum.{sum, sumℤ}
 use Rattle.lists.specs.Count.{count}
 use Rattle.lists.specs.Tabulate.{tabulate, raster}
 use Rattle.model.specs.Border.{Border, constant, nearest, mirror, wrap, inside, closest, reflected, supply}
 use Rattle.model.specs.Plane.{planeOf, around, pick}
-use Rattle.model.specs.Kernel.{Kernel, Tap, tap, kernel, weightedSum, total, magnitude}
+use Rattle.model.specs.Kernel.{Kernel, tap, kernel, weightedSum, total, magnitude}
 use Rattle.model.specs.Binomial.{binomial, pairSums, pascalRow, choose}
 use Rattle.model.specs.Apportion.{apportion, quotient, remainder, wantedTotal, lacking, comesBefore, getsUnit, share}
 use Rattle.model.specs.Weighted.{rowValue, weightedResult}
@@ -20,7 +19,7 @@ use Rattle.model.specs.Window.{area, window}
 use Rattle.model.specs.Box.{boxResult}
 use Rattle.model.specs.Rank.{insert, sort, smallest, rankResult}
 use Rattle.model.specs.Stage.{Work, weighted, box, rank, Stage, stage, written, result, stagePlane}
-use Rattle.model.specs.Tolerance.{tolerance, gain, weightedGrowth, growth, afterStage, toleranceFrom}
+use Rattle.model.specs.Tolerance.{tolerance, scaledGain, weightedGrowth, growth, afterStage, toleranceFrom}
 use Rattle.model.specs.Exact.{exact, exactDenominator, denominator, numerator, exactPlane, exactFrom, denominatorFrom}
 
 pub data Answer : Type 0 where
@@ -49,7 +48,7 @@ exactly W H ts plane = fractions (exactDenominator ts) (exact W H ts plane)
 unfoldable pub apportioned : Kernel → Answer
 apportioned K = weights (map (λ t. t .weight) (apportion K))
 
--- T after the first stage alone, the first two, ..; no rule of T looks at the border
+-- T after these works; no rule of T looks at the border
 unfoldable pub toleranceOf : List Work → ℕ
 toleranceOf ws = tolerance (map (λ w. stage nearest 0 w) ws)
 
@@ -95,6 +94,10 @@ two D a b = kernel D (tap (pos 0) a ∷ tap (pos 1) b ∷ [])
 unfoldable pub alone : ℕ → ℤ → Kernel
 alone D a = kernel D (tap (pos 0) a ∷ [])
 
+-- gains of 4 both ways
+unfoldable pub quadruple : Work
+quadruple = weighted (alone 1 (pos 4)) (alone 1 (pos 4))
+
 -- a tap 1/1 one row up
 unfoldable pub above : Kernel
 above = kernel 1 (tap (minus 1) (pos 1) ∷ [])
@@ -108,8 +111,11 @@ above = kernel 1 (tap (minus 1) (pos 1) ∷ [])
 -- 1 and 2 over 3: (10 + 2·40) / 3 = 30. The weights are 21,845 1/3 and 43,690 2/3, and the one unit goes to the second;
 -- halves across and down: (12.5 + 12) / 2 = 12.25, since row values keep their fractions; -1 across and -1 down: the row value -20 is kept;
 -- -1/128 across, -1 down: 63 gives -31.5 64ths, rounded up to -31, and 31/64 is nearest to 0;
+-- 4 over 1: 800 is clamped to 255, and four such stages carry T past the cut;
+-- weights that make half a unit: 16.5 is wanted as 17, -16.5 as -16. Binomial r 2: 1 4 6 4 1 in 16ths;
+-- box, rank, then 1 1 2 over 3 across and 1 1 over 3 down: g1 is 87,381.3 and g2 43,690.7, rounded up; 29,127.3 + 851.1 + 680.8, each rounded up, + 32,768;
 -- two stages: box gives 13 23 33, of whose windows 13 13 23, 13 23 33, 23 33 33 the third is taken;
--- exact: 50/4 = 12.5; 40/3; the middle one; 10/2 and 30/2; -20/2 and below are clamped; box twice, where the border value 100 enters as 300 thirds.
+-- exact: 50/4 = 12.5; 40/3; the middle one; 10/2 and 30/2; -20/2, -30/2 and -10/2 are clamped, and so is 800; box twice, where the border value 100 enters as 300 thirds.
 unfoldable pub details : List Example
 details =
     row "constant" (supplied constant) (samples (99 ∷ 99 ∷ 99 ∷ 99 ∷ 99 ∷ 10 ∷ 20 ∷ 40 ∷ 99 ∷ 99 ∷ 99 ∷ 99 ∷ 99 ∷ []))
@@ -125,12 +131,23 @@ details =
     ∷ row "halves at 0 1, across and down" (filtered 2 2 nearest 0 (weighted (two 2 (pos 1) (pos 1)) (two 2 (pos 1) (pos 1))) (12 ∷ 13 ∷ 12 ∷ 12 ∷ [])) (samples (12 ∷ 13 ∷ 12 ∷ 12 ∷ []))
     ∷ row "-1 across, -1 down" (filtered 1 1 nearest 0 (weighted (alone 1 (minus 1)) (alone 1 (minus 1))) (20 ∷ [])) (samples (20 ∷ []))
     ∷ row "-1/128 across, -1 down" (filtered 1 1 nearest 0 (weighted (alone 128 (minus 1)) (alone 1 (minus 1))) (63 ∷ [])) (samples (0 ∷ []))
+    ∷ row "16.5 units" (apportioned (alone (2 ^ 35) (pos 8650752))) (weights (pos 17 ∷ []))
+    ∷ row "-16.5 units" (apportioned (alone (2 ^ 35) (minus 8650752))) (weights (minus 16 ∷ []))
+    ∷ row "binomial r 2" (apportioned (binomial 2)) (weights (pos 4096 ∷ pos 16384 ∷ pos 24576 ∷ pos 16384 ∷ pos 4096 ∷ []))
+    ∷ row "T of 4 over 1 both ways, four times"
+    (tolerances (toleranceOf (quadruple ∷ []) ∷ toleranceOf (quadruple ∷ quadruple ∷ []) ∷ toleranceOf (quadruple ∷ quadruple ∷ quadruple ∷ []) ∷ toleranceOf (quadruple ∷ quadruple ∷ quadruple ∷ quadruple ∷ []) ∷ []))
+    (tolerances (36857 ∷ 626569 ∷ 10061961 ∷ 16711680 ∷ []))
+    ∷ row "T of box, rank, 1 1 2 over 3 across with 1 1 over 3 down"
+    (tolerances (toleranceOf (box 1 1 ∷ []) ∷ toleranceOf (box 1 1 ∷ rank 1 1 5 ∷ []) ∷ toleranceOf (box 1 1 ∷ rank 1 1 5 ∷ weighted (three 3 (pos 1) (pos 1) (pos 2)) (two 3 (pos 1) (pos 1)) ∷ []) ∷ []))
+    (tolerances (32768 ∷ 32768 ∷ 63429 ∷ []))
+    ∷ row "4 over 1 on 200" (filtered 1 1 nearest 0 (weighted (alone 1 (pos 4)) one) (200 ∷ [])) (samples (255 ∷ []))
     ∷ row "box r 1, then rank r 1 p 3" (samples (written 3 1 (stage nearest 0 (box 1 0) ∷ stage nearest 0 (rank 1 0 3) ∷ []) (10 ∷ 20 ∷ 40 ∷ []))) (samples (23 ∷ 33 ∷ 33 ∷ []))
     ∷ row "exact binomial" (exactly 3 1 (stage nearest 0 (weighted (binomial 1) (binomial 0)) ∷ []) (10 ∷ 20 ∷ 40 ∷ [])) (fractions 4 (50 ∷ 90 ∷ 140 ∷ []))
     ∷ row "exact box" (exactly 3 1 (stage nearest 0 (box 1 0) ∷ []) (10 ∷ 20 ∷ 40 ∷ [])) (fractions 3 (40 ∷ 70 ∷ 100 ∷ []))
     ∷ row "exact rank, p 2" (exactly 3 1 (stage nearest 0 (rank 1 0 2) ∷ []) (10 ∷ 20 ∷ 40 ∷ [])) (fractions 1 (10 ∷ 20 ∷ 40 ∷ []))
     ∷ row "exact -1 0 1 over 2" (exactly 3 1 (stage nearest 0 (weighted (three 2 (minus 1) (pos 0) (pos 1)) one) ∷ []) (10 ∷ 20 ∷ 40 ∷ [])) (fractions 2 (10 ∷ 30 ∷ 20 ∷ []))
     ∷ row "exact -1 0 1 over 2, on 40 20 10" (exactly 3 1 (stage nearest 0 (weighted (three 2 (minus 1) (pos 0) (pos 1)) one) ∷ []) (40 ∷ 20 ∷ 10 ∷ [])) (fractions 2 (0 ∷ 0 ∷ 0 ∷ []))
+    ∷ row "exact 4 over 1 on 200" (exactly 1 1 (stage nearest 0 (weighted (alone 1 (pos 4)) one) ∷ []) (200 ∷ [])) (fractions 1 (255 ∷ []))
     ∷ row "exact box, then box with constant 100"
     (exactly 3 1 (stage nearest 0 (box 1 0) ∷ stage constant 100 (box 1 0) ∷ []) (10 ∷ 20 ∷ 40 ∷ []))
     (fractions 9 (410 ∷ 210 ∷ 470 ∷ []))
@@ -138,7 +155,7 @@ details =
 
 -- every definition that an example runs through, opened by one name
 opened : Unit {0}
-unfolding modulo ceilDiv clamp sum sumℤ tabulate raster count inside closest reflected supply planeOf pick around tap kernel weightedSum total magnitude pairSums pascalRow choose binomial quotient remainder wantedTotal lacking comesBefore getsUnit share apportion rowValue weightedResult area window boxResult insert sort smallest rankResult stage result stagePlane written gain weightedGrowth growth afterStage toleranceFrom tolerance denominator numerator exactPlane exactFrom denominatorFrom exact exactDenominator row filtered exactly apportioned toleranceOf supplied minus three one two alone above
+unfolding modulo ceilDiv clamp sum sumℤ tabulate raster count inside closest reflected supply planeOf pick around tap kernel weightedSum total magnitude pairSums pascalRow choose binomial quotient remainder wantedTotal lacking comesBefore getsUnit share apportion rowValue weightedResult area window boxResult insert sort smallest rankResult stage result stagePlane written scaledGain weightedGrowth growth afterStage toleranceFrom tolerance denominator numerator exactPlane exactFrom denominatorFrom exact exactDenominator row filtered exactly apportioned toleranceOf supplied minus three one two alone quadruple above
 opened = tt
 
 -- THE WORKED EXAMPLES HOLD, by computation

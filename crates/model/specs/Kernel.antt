@@ -30,7 +30,7 @@ weightedSum (t ∷ ts) f = t .weight *ℤ f (t .offset) +ℤ weightedSum ts f
 unfoldable pub total : List Tap → ℤ
 total ts = sumℤ (map (λ t. t .weight) ts)
 
--- the sum of |a|; over D it is "the gain of an axis"
+-- the sum of |a|; over D it is "The gain of an axis"
 unfoldable pub magnitude : List Tap → ℕ
 magnitude ts = sum (map (λ t. natAbs (t .weight)) ts)
 

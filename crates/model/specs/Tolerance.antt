@@ -1,4 +1,4 @@
--- The tolerance T, in 65,536ths of a grey level.
+-- The tolerance T, "in 65,536ths of a level".
 use Prim.Native.Nat.{ℕ, _+_, _*_, _^_, min}
 use mathlib.Core.List.{List, [], _∷_}
 use lib.ListN.{length}
@@ -7,8 +7,8 @@ use Rattle.model.specs.Kernel.{Kernel, magnitude}
 use Rattle.model.specs.Stage.{Work, weighted, box, rank, Stage}
 
 -- "g1, g2 .. the two gains times 65,536, rounded up"
-unfoldable pub gain : Kernel → ℕ
-gain K = ceilDiv (65536 * magnitude (K .taps)) (K .divisor)
+unfoldable pub scaledGain : Kernel → ℕ
+scaledGain K = ceilDiv (65536 * magnitude (K .taps)) (K .divisor)
 
 -- "After a weighted stage, with each quotient rounded up by itself: T' = g1·g2·T/2^32 + g2·(255n+512)/65,536 + m·(255·g1 + 255n + 512)/65,536 + 32,768"
 unfoldable pub weightedGrowth : ℕ → ℕ → ℕ → ℕ → ℕ → ℕ
@@ -20,7 +20,7 @@ weightedGrowth g1 g2 n m T =
 
 -- "Box: T + 32,768. Rank: T"
 unfoldable pub growth : Work → ℕ → ℕ
-growth (weighted across down) T = weightedGrowth (gain across) (gain down) (length (across .taps)) (length (down .taps)) T
+growth (weighted across down) T = weightedGrowth (scaledGain across) (scaledGain down) (length (across .taps)) (length (down .taps)) T
 growth (box r s) T = T + 32768
 growth (rank r s p) T = T
 

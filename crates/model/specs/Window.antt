@@ -1,7 +1,7 @@
 -- Windows "with radii r across, s down".
 use Prim.Native.Nat.{ℕ, _+_, _*_}
 use mathlib.Core.List.{List}
-use lib.IntN.{ℤ, pos, _-ℤ_}
+use lib.IntN.{pos, _-ℤ_}
 use Rattle.lists.specs.Tabulate.{raster}
 use Rattle.model.specs.Plane.{Neighbourhood}
 

@@ -1,0 +1,43 @@
+// Document 01's refusal numbers ('Who causes which refusal') by name.
+
+// The still.
+pub const MAGIC: u8 = 1;
+
+pub const HEADER: u8 = 2;
+
+pub const SIDE: u8 = 3;
+
+pub const MAXIMUM: u8 = 4;
+
+pub const RASTER_SHORT: u8 = 5;
+
+pub const RASTER_LONG: u8 = 6;
+
+// The recipe.
+pub const STAGE_COUNT: u8 = 10;
+
+pub const CUT: u8 = 11;
+
+pub const TRAILING: u8 = 12;
+
+pub const KIND: u8 = 13;
+
+pub const COUNT: u8 = 14;
+
+pub const OFFSET: u8 = 15;
+
+pub const REAL_WEIGHT: u8 = 16;
+
+pub const GAIN: u8 = 17;
+
+pub const POSITION: u8 = 18;
+
+// The calling program.
+pub const CHANNELS: u8 = 19;
+
+pub const ROOM: u8 = 20;
+
+// The two files on disk.
+pub const FILE_LONG: u8 = 21;
+
+pub const FILE_UNREAD: u8 = 22;
