@@ -2,3 +2,4 @@ pub mod Parts
 pub mod Order
 pub mod Divide
 pub mod Near
+pub mod Machine

@@ -1,6 +1,6 @@
 -- Weights into 65,536ths: each is its floor or one more, they add up to the wanted total, and a tap with remainder 0 gets no unit. Assumes nothing.
-use Prim.Native.Nat.{ℕ, _+_, _*_, _≤_, _<_}
-use native.Mathlib.Nat.{le-trans, le-of-mul-le-mul-left, lt-of-mul-lt-mul-left, min-eq-left, eq-or-lt-of-le}
+use Prim.Native.Nat.{ℕ, _+_, _*_, _/_, _≤_, _<_}
+use native.Mathlib.Nat.{le-trans, le-of-mul-le-mul-left, lt-of-mul-lt-mul-left, min-eq-left, eq-or-lt-of-le, div-eq-of-lt-le}
 use native.Mathlib.Omega.{arith}
 use native.Mathlib.Decide.{decLe}
 use mathlib.Core.Path.{_≡_, refl, sym, ap, _∙_}
@@ -180,6 +180,21 @@ module _ (K : Kernel) (hD : 0 < K .divisor) where
       go : (z : ℤ) → lacking K ≡ z → Parts z (posPart Y + negPart Q) (negPart Y + posPart Q) → (L : ℕ) × Lacking K L
       go (pos L) e g = (L, record { is = e; few = omega (arith, high) })
       go (negsuc L) e g = absurd (omega (arith, low))
+
+  -- the units that are lacking are the remainders' sum over D, rounded, halves upward
+  pub lacking-by-remainders : lacking K ≡ pos ((2 * sum (map (remainder (K .divisor)) (K .taps)) + K .divisor) / (2 * K .divisor))
+  unfolding D R
+  lacking-by-remainders = go (lacking K) refl gap (lacking-few)
+    where
+      go : (z : ℤ) → lacking K ≡ z → Parts z (posPart Y + negPart Q) (negPart Y + posPart Q) → (L : ℕ) × Lacking K L → lacking K ≡ pos ((2 * R + D) / (2 * D))
+      go (pos L) e g l =
+          e
+          ∙ ap pos
+          (sym
+          (div-eq-of-lt-le (2 * D)
+          (omega (arith, Y-floor, add-parts (pos 131072 *ℤ S) (pos D), mul-parts (pos 131072) S, Q-whole, ap (λ (n : ℕ). D * n) (g .sum)))
+          (omega (arith, Y-floor, add-parts (pos 131072 *ℤ S) (pos D), mul-parts (pos 131072) S, Q-whole, ap (λ (n : ℕ). D * n) (g .sum)))))
+      go (negsuc L) e g (k, l) = let z : pos k ≡ negsuc L = sym (l .is) ∙ e in let y : _≡_ {A = ℕ} 0 1 = cc in absurd (omega arith)
 
   -- the order of service hands out as many units as are lacking
   units : Rising (K .taps) → pos (count (getsUnit K) (K .taps)) ≡ lacking K

@@ -1,9 +1,11 @@
--- An answer that is no refusal has passed every test. Assumes nothing.
+-- An answer that is no refusal has passed every test; and tests that are run in parts. Assumes nothing.
 use Prim.Native.Nat.{ℕ}
 use mathlib.Core.Path.{_≡_, refl}
 use mathlib.Core.Bool.{true, false}
-use mathlib.Core.List.{List, [], _∷_}
-use Rattle.refusals.specs.Refusal.{Test, tested}
+use mathlib.Core.List.{List, [], _∷_, _++_}
+use native.Mathlib.Omega.{arith}
+use Rattle.refusals.specs.declared.Verdict.the-variants.{Refused, Passed}
+use Rattle.refusals.specs.Refusal.{Test, tested, verdict}
 
 abbrev pub AllPass : List Test → Type 0
 AllPass [] = Unit {0}
@@ -13,3 +15,24 @@ pub passed : {A : Type 0} (refuse : ℕ → A) (ts : List Test) (answer x : A) �
 passed refuse [] answer x never e = (tt, e)
 passed refuse ((true, n) ∷ ts) answer x never e = let h = passed refuse ts answer x never e in ((refl, h .0), h .1)
 passed refuse ((false, n) ∷ ts) answer x never e = absurd (never n e)
+
+-- ---- tests in parts
+
+module _ {A : Type 0} (refuse : ℕ → A) (ys : List Test) (answer : A) where
+  -- a first part that passes leaves the rest
+  pub passed-part : (xs : List Test) → verdict xs ≡ Passed → tested refuse (xs ++ ys) answer ≡ tested refuse ys answer
+  unfolding verdict
+  passed-part [] e = refl
+  passed-part ((true, n) ∷ xs) e = passed-part xs e
+  passed-part ((false, n) ∷ xs) e = let z : _≡_ {A = ℕ} 0 1 = cc in absurd (omega arith)
+
+  -- a first part that refuses decides
+  pub refused-part : (xs : List Test) {n : ℕ} → verdict xs ≡ Refused n → tested refuse (xs ++ ys) answer ≡ refuse n
+  unfolding verdict
+  refused-part [] e = let z : _≡_ {A = ℕ} 0 1 = cc in absurd (omega arith)
+  refused-part ((true, m) ∷ xs) e = refused-part xs e
+  refused-part ((false, m) ∷ xs) {n} e = let d : m ≡ n = cc in mathlib.Core.Path.ap refuse d
+
+pub all-pass : (ts : List Test) → verdict ts ≡ Passed → AllPass ts
+unfolding verdict
+all-pass ts e = passed Refused ts Passed Passed (λ n f. let z : _≡_ {A = ℕ} 0 1 = cc in omega arith) e .0

@@ -2,6 +2,8 @@
 use Prim.Native.Nat.{ℕ}
 use mathlib.Core.Bool.{Bool, cond}
 use mathlib.Core.List.{List, [], _∷_}
+use Rattle.refusals.specs.declared.Verdict.{Verdict}
+use Rattle.refusals.specs.declared.Verdict.the-variants.{Refused, Passed}
 
 -- "The camera's file": "magic" · "header malformed or cut" · "a side outside 1 to 8,192" · "maximum not 255" · "raster short" · "bytes after it"
 abbrev pub magic : ℕ
@@ -73,3 +75,7 @@ Test = Bool × ℕ
 abbrev pub tested : {A : Type 0} → (ℕ → A) → List Test → A → A
 tested refuse [] answer = answer
 tested refuse (t ∷ ts) answer = cond (t .0) (tested refuse ts answer) (refuse (t .1))
+
+-- what a run of tests finds
+unfoldable pub verdict : List Test → Verdict
+verdict ts = tested Refused ts Passed

@@ -41,3 +41,9 @@ pub const ROOM: u8 = 20;
 pub const FILE_LONG: u8 = 21;
 
 pub const FILE_UNREAD: u8 = 22;
+
+// What a run of tests finds: the refusal of the first that fails, or that all pass.
+pub enum Verdict {
+    Refused(u8),
+    Passed,
+}

@@ -1,0 +1,32 @@
+-- A signed difference of two naturals in machine numbers: what a cast and one subtraction ask and give.
+-- Assumes nothing.
+use mathlib.Core.Path.{_≡_, refl, sym, ap, _∙_, subst}
+use mathlib.Core.Bool.{Bool, true, false, cond}
+use Prim.Native.Nat.{ℕ, zero, suc, _+_, _-_, _<_, _≤_, _^_}
+use native.Mathlib.Omega.{arith}
+use native.Mathlib.Nat.{lt-of-le-of-lt}
+use lib.IntN.{ℤ, pos, negsuc, subℕ, _-ℤ_}
+use lib.Signed.{mag}
+use lib.Dec.{ltb}
+use mir.Syntax.{Width}
+use mir.Val.{SFits, hbits, toZ, ofZ}
+use mir.Facts.{toZ-ofZ, toZ-pos}
+
+mag-cond : (t : Bool) (a b : ℕ) → mag (cond t (negsuc (b - suc a)) (pos (a - b))) ≤ a + b
+mag-cond true a b = omega arith
+mag-cond false a b = omega arith
+
+pub mag-diff : (a b : ℕ) → mag (pos a -ℤ pos b) ≤ a + b
+mag-diff a zero = omega arith
+mag-diff a (suc b) = mag-cond (ltb a (suc b)) a (suc b)
+
+module _ (w : Width) (a b : ℕ) (fits : a + b < 2 ^ hbits w) where
+  small : a < 2 ^ hbits w
+  small = omega arith
+
+  -- a cast to the signed type, less b
+  pub diff-fits : SFits w (toZ w a -ℤ pos b)
+  diff-fits = rw (toZ-pos w small) (record { sfits = lt-of-le-of-lt (mag-diff a b) fits })
+
+  pub diff-is : toZ w (ofZ w (toZ w a -ℤ pos b)) ≡ pos a -ℤ pos b
+  diff-is = toZ-ofZ diff-fits ∙ ap (λ (z : ℤ). z -ℤ pos b) (toZ-pos w small)

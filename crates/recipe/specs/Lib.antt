@@ -1,0 +1,5 @@
+-- Recipe bytes as document 01 has them ('Recipe bytes'), definitions only: the tests of each field in byte order, and the stages that pass them.
+pub mod Bytes
+pub mod Weighted
+pub mod Stage
+pub mod Recipe

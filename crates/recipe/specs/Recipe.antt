@@ -1,0 +1,35 @@
+-- What `read_recipe` answers.
+use Prim.Native.Nat.{ℕ, zero, suc}
+use mathlib.Core.Bool.{_&&_}
+use mathlib.Core.List.{List, [], _∷_, _++_}
+use lib.ListN.{length, drop}
+use lib.Dec.{leb, eqb}
+use Rattle.refusals.specs.Refusal as Refusal
+use Rattle.refusals.specs.Refusal.{Test, tested}
+use Rattle.model.specs.Stage.{Stage}
+use Rattle.model.specs.Tolerance.{tolerance}
+use Rattle.recipe.specs.declared.Recipe.{Recipe}
+use Rattle.recipe.specs.declared.Recipe.the-variants.{Refused, Stages}
+use Rattle.recipe.specs.Bytes.{at, there, field}
+use Rattle.recipe.specs.Stage.{stageTests, stageLength, stageOf}
+
+-- k stages one after the other; "then the end": "bytes after the last stage"
+unfoldable pub stagesTests : ℕ → List ℕ → List Test
+stagesTests zero b = (eqb (length b) 0, Refusal.trailing) ∷ []
+stagesTests (suc k) b = stageTests b ++ stagesTests k (drop (stageLength b) b)
+
+unfoldable pub stagesOf : ℕ → List ℕ → List Stage
+stagesOf zero b = []
+stagesOf (suc k) b = stageOf b ∷ stagesOf k (drop (stageLength b) b)
+
+-- "First the stage count S, 1 to 8; then the stages; then the end"
+unfoldable pub recipeTests : List ℕ → List Test
+recipeTests b = field b 1 (leb 1 (at b 0) && leb (at b 0) 8) Refusal.stageCount ++ stagesTests (at b 0) (drop 1 b)
+
+-- the stages of a recipe
+unfoldable pub recipeStages : List ℕ → List Stage
+recipeStages b = stagesOf (at b 0) (drop 1 b)
+
+-- "read a recipe, giving S and T", or a refusal
+unfoldable pub recipeOf : List ℕ → Recipe
+recipeOf b = tested Refused (recipeTests b) (Stages (at b 0) (tolerance (recipeStages b)))

@@ -1,0 +1,5 @@
+// Recipes: from a lab's bytes to stages, weights and the tolerance.
+pub enum Recipe {
+    Refused(u8),
+    Stages { count: u8, tolerance: u64 },
+}
