@@ -4,10 +4,10 @@ use mathlib.Core.Path.{_≡_, refl, sym, ap, _∙_, subst}
 use mathlib.Core.Bool.{Bool, true, false, cond}
 use Prim.Native.Nat.{ℕ, zero, suc, _+_, _-_, _<_, _≤_, _^_}
 use native.Mathlib.Omega.{arith}
-use native.Mathlib.Nat.{lt-of-le-of-lt}
-use lib.IntN.{ℤ, pos, negsuc, subℕ, _-ℤ_}
-use lib.Signed.{mag}
-use lib.Dec.{ltb}
+use native.Mathlib.Nat.{lt-of-le-of-lt, le-of-lt}
+use lib.IntN.{ℤ, pos, negsuc, subℕ, natAbs, _+ℤ_, _-ℤ_}
+use lib.Signed.{mag, nonNeg}
+use lib.Dec.{T, ltb, ltb→lt}
 use mir.Syntax.{Width}
 use mir.Val.{SFits, hbits, toZ, ofZ}
 use mir.Facts.{toZ-ofZ, toZ-pos}
@@ -30,3 +30,17 @@ module _ (w : Width) (a b : ℕ) (fits : a + b < 2 ^ hbits w) where
 
   pub diff-is : toZ w (ofZ w (toZ w a -ℤ pos b)) ≡ pos a -ℤ pos b
   diff-is = toZ-ofZ diff-fits ∙ ap (λ (z : ℤ). z -ℤ pos b) (toZ-pos w small)
+
+-- an integer whose magnitude is below half the width's power fits the signed width
+pub abs-fits : (w : Width) (z : ℤ) → natAbs z < 2 ^ hbits w → SFits w z
+abs-fits w (pos a) h = record { sfits = h }
+abs-fits w (negsuc a) h = record { sfits = le-of-lt h }
+
+-- a bias that is no smaller than a magnitude makes a number that is not negative
+pub biased-nat : (z : ℤ) (b : ℕ) → natAbs z ≤ b → T (nonNeg (z +ℤ pos b))
+biased-nat (pos a) b h = tt
+biased-nat (negsuc a) b h = go (ltb b (suc a)) (ltb→lt b (suc a))
+  where
+    go : (t : Bool) → (T t → b < suc a) → T (nonNeg (cond t (negsuc (suc a - suc b)) (pos (b - suc a))))
+    go true f = let l = f tt in absurd (omega arith)
+    go false f = tt

@@ -1,4 +1,7 @@
 // Recipes: from a lab's bytes to stages, weights and the tolerance.
+pub mod check;
+pub mod taps;
+
 pub enum Recipe {
     Refused(u8),
     Stages { count: u8, tolerance: u64 },

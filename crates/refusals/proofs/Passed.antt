@@ -5,7 +5,7 @@ use mathlib.Core.Bool.{true, false}
 use mathlib.Core.List.{List, [], _∷_, _++_}
 use native.Mathlib.Omega.{arith}
 use Rattle.refusals.specs.declared.Verdict.the-variants.{Refused, Passed}
-use Rattle.refusals.specs.Refusal.{Test, tested, verdict}
+use Rattle.refusals.specs.Refusal.{Test, tested, verdict, andThen}
 
 abbrev pub AllPass : List Test → Type 0
 AllPass [] = Unit {0}
@@ -36,3 +36,13 @@ module _ {A : Type 0} (refuse : ℕ → A) (ys : List Test) (answer : A) where
 pub all-pass : (ts : List Test) → verdict ts ≡ Passed → AllPass ts
 unfolding verdict
 all-pass ts e = passed Refused ts Passed Passed (λ n f. let z : _≡_ {A = ℕ} 0 1 = cc in omega arith) e .0
+
+pub verdict-append : (xs ys : List Test) → verdict (xs ++ ys) ≡ andThen (verdict xs) (verdict ys)
+unfolding verdict
+verdict-append [] ys = refl
+verdict-append ((true, n) ∷ xs) ys = verdict-append xs ys
+verdict-append ((false, n) ∷ xs) ys = refl
+
+pub all-append : (xs ys : List Test) → AllPass (xs ++ ys) → AllPass xs × AllPass ys
+all-append [] ys h = (tt, h)
+all-append (t ∷ xs) ys h = let r = all-append xs ys (h .1) in ((h .0, r .0), r .1)

@@ -79,3 +79,8 @@ tested refuse (t ∷ ts) answer = cond (t .0) (tested refuse ts answer) (refuse 
 -- what a run of tests finds
 unfoldable pub verdict : List Test → Verdict
 verdict ts = tested Refused ts Passed
+
+-- the first verdict where it refuses, else the second
+abbrev pub andThen : Verdict → Verdict → Verdict
+andThen (Refused n) v = Refused n
+andThen Passed v = v

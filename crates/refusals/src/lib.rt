@@ -1,4 +1,6 @@
 // Document 01's refusal numbers ('Who causes which refusal') by name.
+ghost use mathlib.Core.Path.{_≡_};
+ghost use Rattle.refusals.specs.Refusal.{andThen};
 
 // The still.
 pub const MAGIC: u8 = 1;
@@ -46,4 +48,14 @@ pub const FILE_UNREAD: u8 = 22;
 pub enum Verdict {
     Refused(u8),
     Passed,
+}
+
+// The first verdict where it refuses, else the second.
+pub fn both(first: Verdict, second: Verdict) -> Verdict
+    ensures { λ r. ⌜ r ≡ andThen first second ⌝ }
+{
+    match first {
+        Verdict::Refused(n) => Verdict::Refused(n),
+        Verdict::Passed => second,
+    }
 }

@@ -6,7 +6,7 @@ use native.Mathlib.Nat.{add-zero, eq-zero-or-pos, zero-mul, mul-one, one-mul, mu
 use native.Mathlib.Omega.{arith}
 use native.Mathlib.Decide.{decLe}
 use mathlib.Core.Bool.{Bool, true, false, not, _&&_, _||_, Bool·beq, cond}
-use lib.IntN.{ℤ, pos, negsuc, negℤ}
+use lib.IntN.{ℤ, pos, negsuc, negℤ, natAbs}
 use lib.Dec.{T, ltb, leb, eqb, lit<, lit≤, T-not, not-T, eqb→eq, leb→le, eqb·suc-zero}
 use lib.Pow.{pow-add, pow-pos, pow-mono, shl-lt}
 use lib.Ieee.{Float, nan, inf, fin, Format, binary32, binary64, prec, emax, low, below, level, lt, eq, le, neg, mul, inSigned, isNan, fits, ofFields, ofBits, toBits, toSigned}
@@ -329,3 +329,12 @@ accepted-no-nan b t = go (decLe (b % 2147483648) 2139095040)
     go : Dec (b % 2147483648 ≤ 2139095040) → b % 2147483648 ≤ 2139095040
     go (yes h) = h
     go (no h) = absurd (subst T (nan-refused b (lt-of-not-le h)) t)
+
+pub numerator-small : (b : ℕ) → T (accepted b) → natAbs (numeratorBits b) ≤ 137438953472
+unfolding numeratorBits
+numerator-small b t = go (negative b) (units b / 2 ^ 114) (bounded b t)
+  where
+    go : (s : Bool) (u : ℕ) → u ≤ 137438953472 → natAbs (cond s (negℤ (pos u)) (pos u)) ≤ 137438953472
+    go true zero h = h
+    go true (suc u) h = h
+    go false u h = h

@@ -1,0 +1,74 @@
+-- Offsets and numerators that are held stand for those of the bytes. Assumes nothing.
+use Prim.Native.Nat.{ℕ, _+_, _-_, _*_, _%_, _^_, _≤_, _<_}
+use native.Mathlib.Omega.{arith}
+use mathlib.Core.Path.{_≡_, refl, sym, ap, _∙_}
+use mathlib.Core.Bool.{Bool, true, false, not, cond}
+use mathlib.Core.List.{List}
+use lib.ListN.{length, getD, take}
+use lib.Seq.{getD-take}
+use lib.Dec.{T, ltb, ltb→lt, nltb→le}
+use lib.IntN.{ℤ, pos, negsuc, natAbs, _+ℤ_, _-ℤ_}
+use Rattle.weights.specs.Bits.{accepted}
+use lib.Signed.{nonNeg}
+use Rattle.integers.proofs.Parts.{posPart, negPart, parts-ext, abs-parts, add-parts, sub-parts}
+use Rattle.integers.proofs.Machine.{biased-nat}
+use Rattle.lists.specs.Tabulate.{tabulate}
+use Rattle.lists.proofs.Tabulate.{getD-tabulate, tabulate-ext}
+use Rattle.weights.proofs.Laws.{numerator-small}
+use Rattle.model.specs.Kernel.{tap, kernel}
+use Rattle.kernels.specs.Kernel.{offsetOf, numeratorOf, tapOf, kernelOf}
+use Rattle.recipe.specs.Bytes.{at, word, signed8, bits}
+use Rattle.recipe.specs.Weighted.{weightLength, numeratorAt, kernelAt}
+use Rattle.recipe.specs.Held.{heldOffset, heldNumerator, Tested, Holds}
+use Rattle.recipe.proofs.Numerators.{ratio-small}
+
+-- an offset that is held
+offset-back : (x : ℕ) → x < 256 → 113 ≤ (x + 128) % 256 → offsetOf (heldOffset x) ≡ signed8 x
+unfolding offsetOf heldOffset signed8
+offset-back x s h = go (ltb x 128) (ltb→lt x 128) (nltb→le x 128)
+  where
+    go : (t : Bool) → (T t → x < 128) → (T (not t) → 128 ≤ x) → pos ((x + 128) % 256 - 113) -ℤ pos 15 ≡ cond t (pos x) (pos x -ℤ pos 256)
+    go true low high = parts-ext _ _ (omega (arith, low tt, sub-parts (pos ((x + 128) % 256 - 113)) (pos 15)))
+    go false low high = parts-ext _ _ (omega (arith, high tt, sub-parts (pos ((x + 128) % 256 - 113)) (pos 15), sub-parts (pos x) (pos 256)))
+
+no-low : (z : ℤ) → T (nonNeg z) → negPart z ≡ 0
+no-low (pos n) h = refl
+no-low (negsuc n) h = absurd h
+
+-- a numerator that is held
+module _ (a : ℤ) (h : natAbs a ≤ 137438953472) where
+  numerator-back : numeratorOf (heldNumerator a) ≡ a
+  unfolding numeratorOf heldNumerator
+  numerator-back = parts-ext _ _ (omega (arith, abs-parts a, abs-parts (a +ℤ pos 274877906944), add-parts a (pos 274877906944), no-low (a +ℤ pos 274877906944) (biased-nat a 274877906944 (omega arith)), sub-parts (pos (natAbs (a +ℤ pos 274877906944))) (pos 274877906944)))
+
+  held-small : heldNumerator a ≤ 549755813888
+  unfolding heldNumerator
+  held-small = omega (arith, abs-parts a, abs-parts (a +ℤ pos 274877906944), add-parts a (pos 274877906944))
+
+-- the entries of an array whose first n are known
+entry : (xs : List ℕ) (f : ℕ → ℕ) (n i : ℕ) → i < n → take n xs ≡ tabulate f n → getD xs i 0 ≡ f i
+entry xs f n i h e = sym (getD-take n xs i 0 h) ∙ ap (λ l. getD l i 0) e ∙ getD-tabulate f n i 0 h
+
+module _ (real : Bool) (D : ℕ) (b : List ℕ) (n o w : ℕ) (bytes : (i : ℕ) → at b i < 256) (t : Tested real b n o w) where
+  numerator-within : (i : ℕ) → i < n → natAbs (numeratorAt real b (w + weightLength real * i)) ≤ 137438953472
+  unfolding numeratorAt word
+  numerator-within i h = go real (λ r. t .weights-right r i h)
+    where
+      go : (r : Bool) → (T r → T (accepted (bits b (w + weightLength real * i)))) → natAbs (numeratorAt r b (w + weightLength real * i)) ≤ 137438953472
+      go true f = numerator-small _ (f tt)
+      go false f = ratio-small _ (omega (arith, bytes (w + weightLength real * i), bytes (w + weightLength real * i + 1)))
+
+  pub holds : (offsets values : List ℕ) → 31 ≡ length offsets → take n offsets ≡ tabulate (λ i. heldOffset (at b (o + i))) n
+      → 31 ≡ length values → take n values ≡ tabulate (λ i. heldNumerator (numeratorAt real b (w + weightLength real * i))) n
+      → Holds offsets values n D (kernelAt real D b n o w)
+  unfolding kernelOf kernelAt tapOf
+  holds offsets values a e c f =
+      let same : (i : ℕ) → i < n → tap (offsetOf (getD offsets i 0)) (numeratorOf (getD values i 0)) ≡ tap (signed8 (at b (o + i))) (numeratorAt real b (w + weightLength real * i)) =
+          (λ i h. rw (entry offsets _ n i h e, entry values _ n i h f, offset-back (at b (o + i)) (bytes (o + i)) (t .offsets-right i h .0), numerator-back _ (numerator-within i h)))
+      in
+      record {
+        is = ap (kernel D) (tabulate-ext _ _ n same);
+        offsets-fit = a;
+        values-fit = c;
+        values-small = λ i h. rw (entry values _ n i h f) (held-small _ (numerator-within i h))
+      }

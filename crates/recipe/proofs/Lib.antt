@@ -1,0 +1,7 @@
+-- What the reader of recipes is shown to do, and what every recipe that is read keeps to.
+pub mod Offsets
+pub mod Reals
+pub mod Parts
+pub mod Numerators
+pub mod Holding
+pub mod Accepted
