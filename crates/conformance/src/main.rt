@@ -1,5 +1,5 @@
 // Calls the library on each file that its arguments name, and prints what the calls answer.
-// An argument is a case: a folder of `vectors/` with a still and a recipe, or a still of `tools/`.
+// An argument is the path of a still: `still` in a folder of `vectors/`, or a file of `tools/`.
 use libc::STDOUT_FILENO;
 use netpbm::read::Still;
 use netpbm::write::Written;
@@ -92,7 +92,7 @@ fn show_again(bytes: &[u8]) {
     }
 }
 
-// The still that a path names, or nothing where it cannot be opened.
+// The still that a path names, or `no file` where it cannot be opened.
 fn show_file(path: &[u8]) {
     let mut bytes = io::large_buffer();
     let fd = os::open_read(path);

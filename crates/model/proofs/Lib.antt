@@ -1,4 +1,4 @@
--- What is proved of the definitions. Files that unfold definitions `use` the table of worked examples, so that a wrong
+-- What is proved of the definitions. Every file `use`s the table of worked examples, some only through another file, so that a wrong
 -- definition is refused by a number of the table before any proof's text.
 pub mod Border
 pub mod Apportion

@@ -1,4 +1,5 @@
--- Worked examples. `bench` has the starred cases of 'Bench stills'; `details` pins what those and the tolerance leave open.
+-- Worked examples. `bench` has the starred cases of 'Bench stills' and, not starred there, the T of its first line; `details` pins what those and the
+-- tolerance leave open.
 -- A row names the case, what the definitions give for its input, and what they should give. The theorem at the end goes over all rows of both.
 use Prim.Native.Nat.{ℕ, _^_}
 use Prim.Native.String.{String}
@@ -111,6 +112,7 @@ above = kernel 1 (tap (minus 1) (pos 1) ∷ [])
 -- 1 and 2 over 3: (10 + 2·40) / 3 = 30. The weights are 21,845 1/3 and 43,690 2/3, and the one unit goes to the second;
 -- halves across and down: (12.5 + 12) / 2 = 12.25, since row values keep their fractions; -1 across and -1 down: the row value -20 is kept;
 -- -1/128 across, -1 down: 63 gives -31.5 64ths, rounded up to -31, and 31/64 is nearest to 0;
+-- 1/128 across, 1 down: 63 gives 31.5 64ths, rounded up to 32, and 32/64 is rounded up to 1; down before across, 63/128 would be rounded once, to 0;
 -- 4 over 1: 800 is clamped to 255, and four such stages carry T past the cut;
 -- weights that make half a unit: 16.5 is wanted as 17, -16.5 as -16. Binomial r 2: 1 4 6 4 1 in 16ths;
 -- box, rank, then 1 1 2 over 3 across and 1 1 over 3 down: g1 is 87,381.3 and g2 43,690.7, rounded up; 29,127.3 + 851.1 + 680.8, each rounded up, + 32,768;
@@ -128,9 +130,11 @@ details =
     ∷ row "the row above, constant 7" (filtered 1 3 constant 7 (weighted one above) (10 ∷ 20 ∷ 40 ∷ [])) (samples (7 ∷ 10 ∷ 20 ∷ []))
     ∷ row "the row above, wrap" (filtered 1 3 wrap 0 (weighted one above) (10 ∷ 20 ∷ 40 ∷ [])) (samples (40 ∷ 10 ∷ 20 ∷ []))
     ∷ row "1 2 over 3 at 0 1" (filtered 2 1 nearest 0 (weighted (two 3 (pos 1) (pos 2)) one) (10 ∷ 40 ∷ [])) (samples (30 ∷ 40 ∷ []))
+    ∷ row "1 2 over 3" (apportioned (two 3 (pos 1) (pos 2))) (weights (pos 21845 ∷ pos 43691 ∷ []))
     ∷ row "halves at 0 1, across and down" (filtered 2 2 nearest 0 (weighted (two 2 (pos 1) (pos 1)) (two 2 (pos 1) (pos 1))) (12 ∷ 13 ∷ 12 ∷ 12 ∷ [])) (samples (12 ∷ 13 ∷ 12 ∷ 12 ∷ []))
     ∷ row "-1 across, -1 down" (filtered 1 1 nearest 0 (weighted (alone 1 (minus 1)) (alone 1 (minus 1))) (20 ∷ [])) (samples (20 ∷ []))
     ∷ row "-1/128 across, -1 down" (filtered 1 1 nearest 0 (weighted (alone 128 (minus 1)) (alone 1 (minus 1))) (63 ∷ [])) (samples (0 ∷ []))
+    ∷ row "1/128 across, 1 down" (filtered 1 1 nearest 0 (weighted (alone 128 (pos 1)) one) (63 ∷ [])) (samples (1 ∷ []))
     ∷ row "16.5 units" (apportioned (alone (2 ^ 35) (pos 8650752))) (weights (pos 17 ∷ []))
     ∷ row "-16.5 units" (apportioned (alone (2 ^ 35) (minus 8650752))) (weights (minus 16 ∷ []))
     ∷ row "binomial r 2" (apportioned (binomial 2)) (weights (pos 4096 ∷ pos 16384 ∷ pos 24576 ∷ pos 16384 ∷ pos 4096 ∷ []))

@@ -18,8 +18,9 @@ use Rattle.model.specs.Sound.{SoundWork, Sound, Bytes}
 use Rattle.model.specs.Tolerance.{tolerance}
 use Rattle.recipe.specs.declared.Recipe.the-variants.{Refused, Stages}
 use Rattle.recipe.specs.Bytes.{at, word, there}
-use Rattle.recipe.specs.Weighted.{isCount, sizesLength, divisorAt, sizeTests, kernelAt, across, down, weightedTests, weightedWork}
+use Rattle.recipe.specs.Weighted.{isCount, sizesLength, divisorAt, sizeTests, kernelAt, across, down, tapTests, gainTests, weightedTests, weightedWork}
 use Rattle.recipe.specs.Stage.{headTests, radiusTests, positionTests, workTests, workOf, stageTests, stageLength, stageOf}
+use Rattle.recipe.proofs.Axes.{sizes-passed}
 use Rattle.recipe.specs.Recipe.{stagesTests, stagesOf, recipeTests, recipeStages, recipeOf}
 
 -- a test that n is from l to h
@@ -37,22 +38,12 @@ bytes-drop k b h i = rw (getD-drop k b i 0) (h (k + i))
 
 -- ---- kinds 1 and 2
 
-pub sizes-passed : (real : Bool) (b : List ℕ) → AllPass (sizeTests real b)
-    → (1 ≤ at b 0) × (at b 0 ≤ 31) × (1 ≤ at b 1) × (at b 1 ≤ 31) × (0 < divisorAt real 2 b) × (0 < divisorAt real 4 b) × (sizesLength real ≤ length b)
-unfolding sizeTests there isCount divisorAt sizesLength
-sizes-passed true b p =
-    let n = between 1 (at b 0) 31 (p .1 .0) in
-    let m = between 1 (at b 1) 31 (p .1 .1 .1 .0) in
-    (n .0, n .1, m .0, m .1, pow-pos 35, pow-pos 35, leb-true 2 (length b) (p .1 .1 .0))
-sizes-passed false b p =
-    let n = between 1 (at b 0) 31 (p .1 .0) in
-    let m = between 1 (at b 1) 31 (p .1 .1 .1 .0) in
-    let q = p .1 .1 .1 .1 in
-    (n .0, n .1, m .0, m .1, leb-true 1 (word b 2) (q .1 .0), leb-true 1 (word b 4) (q .1 .1 .1 .0), leb-true 6 (length b) (q .1 .1 .0))
-
 pub weighted-passed : (real : Bool) (b : List ℕ) → AllPass (weightedTests real b) → SoundWork (weightedWork real b)
-unfolding weightedTests weightedWork across down kernelAt kernel
-weighted-passed real b p = let s = sizes-passed real b (all-append (sizeTests real b) _ p .0) in (s .4, s .5)
+unfolding tapTests weightedTests weightedWork across down kernelAt kernel
+weighted-passed real b p =
+    let taps = all-append (tapTests real b) (gainTests real b) p .0 in
+    let s = sizes-passed real b (all-append (sizeTests real b) _ taps .0) in
+    (s .4, s .5)
 
 -- ---- a stage
 

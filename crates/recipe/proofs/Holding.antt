@@ -64,11 +64,11 @@ module _ (real : Bool) (D : ℕ) (b : List ℕ) (n o w : ℕ) (bytes : (i : ℕ)
   unfolding kernelOf kernelAt tapOf
   holds offsets values a e c f =
       let same : (i : ℕ) → i < n → tap (offsetOf (getD offsets i 0)) (numeratorOf (getD values i 0)) ≡ tap (signed8 (at b (o + i))) (numeratorAt real b (w + weightLength real * i)) =
-          (λ i h. rw (entry offsets _ n i h e, entry values _ n i h f, offset-back (at b (o + i)) (bytes (o + i)) (t .offsets-right i h .0), numerator-back _ (numerator-within i h)))
+      (λ i h. rw (entry offsets _ n i h e, entry values _ n i h f, offset-back (at b (o + i)) (bytes (o + i)) (t .offsets-right i h .0), numerator-back _ (numerator-within i h)))
       in
       record {
         is = ap (kernel D) (tabulate-ext _ _ n same);
         offsets-fit = a;
         values-fit = c;
-        values-small = λ i h. rw (entry values _ n i h f) (held-small _ (numerator-within i h))
+        values-small = λ i h. rw (entry values _ n i h f) (held-small _ (numerator-within i h));
       }

@@ -2,6 +2,8 @@
 pub mod Offsets
 pub mod Reals
 pub mod Parts
+pub mod Places
 pub mod Numerators
 pub mod Holding
+pub mod Axes
 pub mod Accepted

@@ -25,7 +25,7 @@ pub record Tested (real : Bool) (b : List ℕ) (n o w : ℕ) : Type 0 where
   pub few : n ≤ 31
   pub offsets-there : o + n ≤ length b
   pub weights-there : w + weightLength real * n ≤ length b
-  pub small : length b ≤ 2 ^ 40
+  pub near : (o ≤ 256) × (w ≤ 256)
   pub offsets-right : (i : ℕ) → i < n → (113 ≤ (at b (o + i) + 128) % 256) × ((at b (o + i) + 128) % 256 ≤ 143)
   pub weights-right : T real → (i : ℕ) → i < n → T (accepted (bits b (w + weightLength real * i)))
 
@@ -35,3 +35,11 @@ pub record Holds (offsets values : List ℕ) (n divisor : ℕ) (K : Model.Kernel
   pub offsets-fit : 31 ≡ length offsets
   pub values-fit : 31 ≡ length values
   pub values-small : (i : ℕ) → i < n → getD values i 0 ≤ 2 ^ 39
+
+-- its sizes: at most 31 taps, a divisor of at most 2^35 that is not 0
+pub record Kept (values : List ℕ) (n divisor : ℕ) : Type 0 where
+  pub few : n ≤ 31
+  pub some : 0 < divisor
+  pub low : divisor ≤ 2 ^ 35
+  pub fit : n ≤ length values
+  pub small : (i : ℕ) → i < n → getD values i 0 ≤ 2 ^ 39

@@ -79,14 +79,20 @@ down real b =
 unfoldable pub gainTest : Kernel → Test
 gainTest K = (leb (magnitude (K .taps)) (4 * K .divisor), Refusal.gain)
 
--- in byte order; "gain, tested at the stage's end"
-unfoldable pub weightedTests : Bool → List ℕ → List Test
-weightedTests real b =
+-- the fields in byte order
+unfoldable pub tapTests : Bool → List ℕ → List Test
+tapTests real b =
     sizeTests real b
     ++ (axisTests (at b 0) (drop (sizesLength real) b)
     ++ (axisTests (at b 1) (drop (sizesLength real + at b 0) b)
-    ++ (weightTests real (at b 0 + at b 1) (drop (sizesLength real + (at b 0 + at b 1)) b)
-    ++ (gainTest (across real b) ∷ gainTest (down real b) ∷ []))))
+    ++ weightTests real (at b 0 + at b 1) (drop (sizesLength real + (at b 0 + at b 1)) b)))
+
+-- "gain, tested at the stage's end"
+unfoldable pub gainTests : Bool → List ℕ → List Test
+gainTests real b = gainTest (across real b) ∷ gainTest (down real b) ∷ []
+
+unfoldable pub weightedTests : Bool → List ℕ → List Test
+weightedTests real b = tapTests real b ++ gainTests real b
 
 unfoldable pub weightedLength : Bool → List ℕ → ℕ
 weightedLength real b = sizesLength real + (at b 0 + at b 1) + weightLength real * (at b 0 + at b 1)

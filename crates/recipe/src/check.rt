@@ -10,7 +10,7 @@ ghost use Rattle.recipe.specs.Bytes.{at, word, signed8, bits, field};
 ghost use Rattle.recipe.specs.Weighted.{isCount, sizeTests, axisTests, realTests, weightTests};
 ghost use Rattle.recipe.specs.Stage.{headTests, radiusTests, positionTests};
 
-fn wide(b: u8) -> usize
+pub fn wide(b: u8) -> usize
     ensures { λ r. ⌜ (r ≡ b) × (r < 256) ⌝ }
 {
     b as usize

@@ -1,6 +1,7 @@
 // Recipes: from a lab's bytes to stages, weights and the tolerance.
 pub mod check;
 pub mod taps;
+pub mod weighted;
 
 pub enum Recipe {
     Refused(u8),

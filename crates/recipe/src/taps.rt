@@ -70,7 +70,7 @@ fn offsets_from(part: &[u8], n: usize, o: usize) -> [u8; 31]
     held
 }
 
-fn weight_length(real: bool) -> usize
+pub fn weight_length(real: bool) -> usize
     ensures { λ r. ⌜ r ≡ weightLength real ⌝ }
 {
     if real {

@@ -46,3 +46,9 @@ verdict-append ((false, n) ∷ xs) ys = refl
 pub all-append : (xs ys : List Test) → AllPass (xs ++ ys) → AllPass xs × AllPass ys
 all-append [] ys h = (tt, h)
 all-append (t ∷ xs) ys h = let r = all-append xs ys (h .1) in ((h .0, r .0), r .1)
+
+pub passed-all : (ts : List Test) → AllPass ts → verdict ts ≡ Passed
+unfolding verdict
+passed-all [] h = refl
+passed-all ((true, n) ∷ ts) h = passed-all ts (h .1)
+passed-all ((false, n) ∷ ts) h = let z : _≡_ {A = ℕ} 0 1 = cc in absurd (omega arith)

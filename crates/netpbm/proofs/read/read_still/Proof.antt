@@ -17,7 +17,7 @@ use Rattle.netpbm.proofs.read.read_still.Tie as tie
 
 returns : tie.Need-returns
 unfolding stillOf magicTest
-returns c = rw (magic-short (now (c .before .before .args .bytes)) (c .if1 .taken))
+returns c = rw (magic-short (now (c .before .before .args .bytes)) (omega (arith, c .if1 .taken)))
 
 shared-slice-read-if2 : tie.Need-shared-slice-read-if2
 shared-slice-read-if2 c = search needs

@@ -29,7 +29,7 @@ loop-holds : tie.Need-loop-holds Inv-loop μ-loop
 loop-holds c = (omega arith, fill-none _ _, refl)
 
 add-value-at : tie.Need-add-value-at Inv-loop μ-loop
-add-value-at c = omega (arith, c .before .before .before .before .pre .offsets-there, c .before .before .before .before .pre .small)
+add-value-at c = omega (arith, c .before .before .before .before .pre .near, c .before .before .before .before .pre .few)
 
 mul-value-at : tie.Need-mul-value-at Inv-loop μ-loop
 mul-value-at c =
@@ -39,9 +39,9 @@ mul-value-at c =
 
 add-value-at-2 : tie.Need-add-value-at-2 Inv-loop μ-loop
 add-value-at-2 c =
-    let t = c .before .before .before .before .pre in
-    let p = place-there (c .before .before .before .before .args .real) (c .before .before .before .before .args .w) (c .before .before .before .before .args .n) (c .before .loop .i) (length (now (c .before .before .before .before .args .part))) (c .loop-test .taken) (t .weights-there) in
-    rw (c .before .before .weight-length .ensures) (omega (arith, p, t .small))
+    let a : c .before .before .weight-length .result ≤ 4 = omega (arith, c .before .before .weight-length .ensures, length-small (c .before .before .before .before .args .real)) in
+    let b : c .before .loop .i ≤ 31 = omega (arith, c .loop-test .taken, c .before .before .before .before .pre .few) in
+    omega (arith, mul-le-mul a b, c .before .before .before .before .pre .near)
 
 value-at-requires : tie.Need-value-at-requires Inv-loop μ-loop
 value-at-requires c κs =
