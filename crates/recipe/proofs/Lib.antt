@@ -7,3 +7,5 @@ pub mod Numerators
 pub mod Holding
 pub mod Axes
 pub mod Accepted
+pub mod ByKind
+pub mod Readiness

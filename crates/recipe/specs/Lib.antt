@@ -3,4 +3,5 @@ pub mod Bytes
 pub mod Weighted
 pub mod Held
 pub mod Stage
+pub mod Stands
 pub mod Recipe

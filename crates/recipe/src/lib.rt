@@ -2,6 +2,7 @@
 pub mod check;
 pub mod taps;
 pub mod weighted;
+pub mod stage;
 
 pub enum Recipe {
     Refused(u8),

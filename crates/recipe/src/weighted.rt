@@ -13,7 +13,7 @@ ghost use Rattle.refusals.specs.Refusal.{verdict};
 ghost use Rattle.refusals.specs.declared.Verdict.the-variants.{Passed};
 ghost use Rattle.kernels.specs.Kernel.{kernelOf};
 ghost use Rattle.recipe.specs.Bytes.{at};
-ghost use Rattle.recipe.specs.Weighted.{isCount, sizesLength, divisorAt, sizeTests, axisTests, weightTests, tapTests, across, down, gainTest, gainTests, weightedTests};
+ghost use Rattle.recipe.specs.Weighted.{isCount, sizesLength, divisorAt, sizeTests, axisTests, weightTests, tapTests, across, down, gainTest, gainTests, weightedTests, weightedLength};
 ghost use Rattle.recipe.specs.Held.{Holds, Kept};
 
 fn sizes_length(real: bool) -> usize
@@ -107,6 +107,15 @@ pub fn down_kernel(part: &[u8], real: bool) -> Kernel
     let o = sizes_length(real);
     let w = o + (n + m) + taps::weight_length(real) * n;
     taps::kernel_from(part, real, m, o + n, w, divisor(part, real, 4))
+}
+
+// How many bytes a stage of weights has after its header bytes.
+pub fn bytes(part: &[u8], real: bool) -> usize
+    requires { ⌜ verdict (tapTests real (now part)) ≡ Passed ⌝ }
+    ensures { λ r. ⌜ (r ≡ weightedLength real (now (part .entry))) × (r ≤ length (now (part .entry))) ⌝ }
+{
+    let taps = check::wide(part[0]) + check::wide(part[1]);
+    sizes_length(real) + taps + taps::weight_length(real) * taps
 }
 
 // Whether the gain of a kernel is at most 4.

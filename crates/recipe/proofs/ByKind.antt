@@ -1,0 +1,72 @@
+-- The kinds one by one, and what passing the tests of a stage's kind shows. Assumes nothing.
+use Prim.Native.Nat.{ℕ, zero, suc, _+_, _*_, _≤_, _<_}
+use native.Mathlib.Omega.{arith}
+use mathlib.Core.Path.{_≡_, refl, sym, ap, _∙_}
+use mathlib.Core.Bool.{Bool, true, false, cond}
+use mathlib.Core.List.{List, [], _∷_, _++_}
+use lib.ListN.{length, drop, length-drop}
+use lib.Dec.{eqb, leb}
+use borrow.Author.Tests.{ne-eqb}
+use Rattle.refusals.specs.Refusal.{Test, verdict}
+use Rattle.refusals.specs.declared.Verdict.the-variants.{Refused, Passed}
+use Rattle.refusals.proofs.Passed.{AllPass, all-pass, all-append, passed-all}
+use Rattle.model.specs.Stage.{Work, weighted, box, rank}
+use Rattle.recipe.specs.Bytes.{at, word}
+use Rattle.recipe.specs.Weighted.{tapTests, gainTests, weightedTests, weightedLength, weightedWork}
+use Rattle.recipe.specs.Stage.{headTests, radiusTests, positionTests, workTests, workLength, workOf, stageTests, stageLength}
+use Rattle.recipe.specs.Stands.{acrossOf, downOf}
+use Rattle.recipe.proofs.Accepted.{head-passed, radius-passed, position-passed}
+
+module _ (b : List ℕ) where
+  -- kinds 1 and 2
+  pub weighted-kind : (kind : ℕ) → 1 ≤ kind → kind ≤ 2 → (workTests kind b ≡ weightedTests (eqb kind 2) b) × (workLength kind b ≡ weightedLength (eqb kind 2) b)
+  unfolding workTests workLength
+  weighted-kind zero l h = absurd (omega arith)
+  weighted-kind (suc zero) l h = (refl, refl)
+  weighted-kind (suc (suc zero)) l h = (refl, refl)
+  weighted-kind (suc (suc (suc k))) l h = absurd (omega arith)
+
+  -- kinds 1 to 3
+  pub kernels-kind : (kind : ℕ) → 1 ≤ kind → kind ≤ 3 → workOf kind b ≡ weighted (acrossOf kind b) (downOf kind b)
+  unfolding workOf weightedWork acrossOf downOf
+  kernels-kind zero l h = absurd (omega arith)
+  kernels-kind (suc zero) l h = refl
+  kernels-kind (suc (suc zero)) l h = refl
+  kernels-kind (suc (suc (suc zero))) l h = refl
+  kernels-kind (suc (suc (suc (suc k)))) l h = absurd (omega arith)
+
+  -- kinds 3 to 5: the radii are right
+  pub radii-kind : (kind : ℕ) → 3 ≤ kind → kind ≤ 5 → verdict (workTests kind b) ≡ Passed → (at b 0 ≤ 15) × (at b 1 ≤ 15) × (2 ≤ length b)
+  unfolding workTests
+  radii-kind zero l h e = absurd (omega arith)
+  radii-kind (suc zero) l h e = absurd (omega arith)
+  radii-kind (suc (suc zero)) l h e = absurd (omega arith)
+  radii-kind (suc (suc (suc zero))) l h e = radius-passed b (all-pass (radiusTests b) e)
+  radii-kind (suc (suc (suc (suc zero)))) l h e = radius-passed b (all-pass (radiusTests b) e)
+  radii-kind (suc (suc (suc (suc (suc zero))))) l h e = radius-passed b (all-append (radiusTests b) (positionTests b) (all-pass (radiusTests b ++ positionTests b) e) .0)
+  radii-kind (suc (suc (suc (suc (suc (suc k)))))) l h e = absurd (omega arith)
+
+  -- kind 5: the position is there
+  pub position-there : verdict (workTests 5 b) ≡ Passed → 4 ≤ length b
+  unfolding workTests
+  position-there e = position-passed b (all-append (radiusTests b) (positionTests b) (all-pass (radiusTests b ++ positionTests b) e) .1) .2
+
+  -- the lengths of the other kinds
+  pub window-length : (kind : ℕ) → 3 ≤ kind → (kind ≡ 5 → ⊥) → workLength kind b ≡ 2
+  unfolding workLength
+  window-length kind l n = rw (ne-eqb kind 1 (λ e. omega (arith, e)), ne-eqb kind 2 (λ e. omega (arith, e)), ne-eqb kind 5 n)
+
+-- ---- a stage
+
+pub head-known : (b : List ℕ) → verdict (headTests b) ≡ Passed → (1 ≤ at b 0) × (at b 0 ≤ 5) × (at b 1 ≤ 3) × (3 ≤ length b)
+head-known b e = head-passed b (all-pass (headTests b) e)
+
+pub stage-parts : (b : List ℕ) → verdict (stageTests b) ≡ Passed → (verdict (headTests b) ≡ Passed) × (verdict (workTests (at b 0) (drop 3 b)) ≡ Passed)
+unfolding stageTests
+stage-parts b e =
+    let p = all-append (headTests b) (workTests (at b 0) (drop 3 b)) (all-pass (stageTests b) e) in
+    (passed-all (headTests b) (p .0), passed-all (workTests (at b 0) (drop 3 b)) (p .1))
+
+pub taps-part : (real : Bool) (b : List ℕ) → verdict (weightedTests real b) ≡ Passed → verdict (tapTests real b) ≡ Passed
+unfolding weightedTests
+taps-part real b e = passed-all (tapTests real b) (all-append (tapTests real b) (gainTests real b) (all-pass (weightedTests real b) e) .0)
