@@ -268,6 +268,12 @@ module _ (real : Bool) (b : List ℕ) (bytes : (i : ℕ) → at b i < 256) (h : 
   unfolding weightedLength
   length-passed = right-weights .0
 
+  pub length-most : weightedLength real b ≤ 8192
+  unfolding weightedLength
+  length-most =
+      let few : at b 0 + at b 1 ≤ 62 = omega (arith, sizes .few-across, sizes .few-down) in
+      omega (arith, sizes-most real, few, mul-le-mul (length-small real) few)
+
   pub across-rising : Rising ((across real b) .taps)
   unfolding across
   across-rising = kernel-rising real (divisorAt real 2 b) b (at b 0) (sizesLength real) (sizesLength real + (at b 0 + at b 1)) (right-across .2)

@@ -1,10 +1,10 @@
 -- The kinds one by one, and what passing the tests of a stage's kind shows. Assumes nothing.
-use Prim.Native.Nat.{ℕ, zero, suc, _+_, _*_, _≤_, _<_}
+use Prim.Native.Nat.{ℕ, zero, suc, _+_, _-_, _*_, _≤_, _<_}
 use native.Mathlib.Omega.{arith}
 use mathlib.Core.Path.{_≡_, refl, sym, ap, _∙_}
 use mathlib.Core.Bool.{Bool, true, false, cond}
 use mathlib.Core.List.{List, [], _∷_, _++_}
-use lib.ListN.{length, drop, length-drop}
+use lib.ListN.{length, take, drop, length-drop}
 use lib.Dec.{eqb, leb}
 use borrow.Author.Tests.{ne-eqb}
 use Rattle.refusals.specs.Refusal.{Test, verdict}
@@ -14,7 +14,10 @@ use Rattle.model.specs.Stage.{Work, weighted, box, rank}
 use Rattle.recipe.specs.Bytes.{at, word}
 use Rattle.recipe.specs.Weighted.{tapTests, gainTests, weightedTests, weightedLength, weightedWork}
 use Rattle.recipe.specs.Stage.{headTests, radiusTests, positionTests, workTests, workLength, workOf, stageTests, stageLength}
-use Rattle.recipe.specs.Stands.{acrossOf, downOf}
+use Rattle.recipe.specs.declared.stage.Work as Code
+use Rattle.recipe.specs.declared.stage.Stage.{Stage}
+use Rattle.recipe.specs.Stands.{acrossOf, downOf, windowOf, Does}
+use Rattle.lists.proofs.Part.{tail-mid}
 use Rattle.recipe.proofs.Accepted.{head-passed, radius-passed, position-passed}
 
 module _ (b : List ℕ) where
@@ -51,6 +54,17 @@ module _ (b : List ℕ) where
   unfolding workTests
   position-there e = position-passed b (all-append (radiusTests b) (positionTests b) (all-pass (radiusTests b ++ positionTests b) e) .1) .2
 
+  -- kinds 4 and 5
+  pub window-does : (kind : ℕ) → 4 ≤ kind → kind ≤ 5 → (w : Code.Work) → w ≡ windowOf kind b → (s : Stage) → Does w s (workOf kind b)
+  unfolding workOf windowOf
+  window-does zero l h w e s = absurd (omega arith)
+  window-does (suc zero) l h w e s = absurd (omega arith)
+  window-does (suc (suc zero)) l h w e s = absurd (omega arith)
+  window-does (suc (suc (suc zero))) l h w e s = absurd (omega arith)
+  window-does (suc (suc (suc (suc zero)))) l h w e s = rw e refl
+  window-does (suc (suc (suc (suc (suc zero))))) l h w e s = rw e refl
+  window-does (suc (suc (suc (suc (suc (suc k)))))) l h w e s = absurd (omega arith)
+
   -- the lengths of the other kinds
   pub window-length : (kind : ℕ) → 3 ≤ kind → (kind ≡ 5 → ⊥) → workLength kind b ≡ 2
   unfolding workLength
@@ -70,3 +84,16 @@ stage-parts b e =
 pub taps-part : (real : Bool) (b : List ℕ) → verdict (weightedTests real b) ≡ Passed → verdict (tapTests real b) ≡ Passed
 unfolding weightedTests
 taps-part real b e = passed-all (tapTests real b) (all-append (tapTests real b) (gainTests real b) (all-pass (weightedTests real b) e) .0)
+
+-- what a stage that passes has: a kind from 1 to 5, three header bytes, and fields that pass in the part that follows them
+pub record Known (b : List ℕ) : Type 0 where
+  pub low : 1 ≤ at b 0
+  pub high : at b 0 ≤ 5
+  pub there : 3 ≤ length b
+  pub fields : verdict (workTests (at b 0) (take (length b - 3) (drop 3 b))) ≡ Passed
+
+pub known : (b : List ℕ) → verdict (stageTests b) ≡ Passed → Known b
+known b e =
+    let p = stage-parts b e in
+    let h = head-known b (p .0) in
+    record { low = h .0; high = h .1; there = h .3; fields = ap (λ l. verdict (workTests (at b 0) l)) (tail-mid 3 b) ∙ p .1 }

@@ -127,7 +127,7 @@ fn window_work(part: &[u8], kind: u8) -> Work
 // How many bytes follow the header bytes.
 fn work_length(part: &[u8], kind: u8) -> usize
     requires { ⌜ (1 ≤ kind) × (kind ≤ 5) × (verdict (workTests kind (now part)) ≡ Passed) ⌝ }
-    ensures { λ r. ⌜ (r ≡ workLength kind (now (part .entry))) × (r ≤ length (now (part .entry))) ⌝ }
+    ensures { λ r. ⌜ (r ≡ workLength kind (now (part .entry))) × (r ≤ length (now (part .entry))) × (r ≤ 8192) ⌝ }
 {
     if kind <= 2 {
         return weighted::bytes(part, kind == 2);

@@ -112,7 +112,7 @@ pub fn down_kernel(part: &[u8], real: bool) -> Kernel
 // How many bytes a stage of weights has after its header bytes.
 pub fn bytes(part: &[u8], real: bool) -> usize
     requires { ⌜ verdict (tapTests real (now part)) ≡ Passed ⌝ }
-    ensures { λ r. ⌜ (r ≡ weightedLength real (now (part .entry))) × (r ≤ length (now (part .entry))) ⌝ }
+    ensures { λ r. ⌜ (r ≡ weightedLength real (now (part .entry))) × (r ≤ length (now (part .entry))) × (r ≤ 8192) ⌝ }
 {
     let taps = check::wide(part[0]) + check::wide(part[1]);
     sizes_length(real) + taps + taps::weight_length(real) * taps

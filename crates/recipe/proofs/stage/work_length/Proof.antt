@@ -27,20 +27,20 @@ returns : tie.Need-returns
 returns c =
     let a = c .before .before .before .args in
     let k = weighted-kind (now (a .part)) (a .kind) (c .before .before .before .pre .0) (c .before .if1 .taken) in
-    (c .bytes .ensures .0 ∙ sym (k .1), c .bytes .ensures .1)
+    (c .bytes .ensures .0 ∙ sym (k .1), c .bytes .ensures .1, c .bytes .ensures .2)
 
 returns-2 : tie.Need-returns-2
 returns-2 c =
     let a = c .before .before .before .args in
     let h = c .before .before .before .pre in
     let e : a .kind ≡ 5 = c .if2 .taken in
-    (five (now (a .part)) (a .kind) e, position-there (now (a .part)) (rw e at (h .2)))
+    (five (now (a .part)) (a .kind) e, position-there (now (a .part)) (rw e at (h .2)), omega arith)
 
 returns-3 : tie.Need-returns-3
 returns-3 c =
     let a = c .before .before .before .args in
     let h = c .before .before .before .pre in
-    (sym (window-length (now (a .part)) (a .kind) (omega (arith, c .before .if1 .left)) (c .if2 .left)), radii-kind (now (a .part)) (a .kind) (omega (arith, c .before .if1 .left)) (h .1) (h .2) .2)
+    (sym (window-length (now (a .part)) (a .kind) (omega (arith, c .before .if1 .left)) (c .if2 .left)), radii-kind (now (a .part)) (a .kind) (omega (arith, c .before .if1 .left)) (h .1) (h .2) .2, omega arith)
 
 pub work-length-spec : {M : Type 1} → statement M
 work-length-spec = tie.close (tie.spec bytes-requires returns returns-2 returns-3)

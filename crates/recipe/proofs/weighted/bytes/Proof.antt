@@ -6,7 +6,7 @@ use denote.Ref.{now}
 use mathlib.Core.Path.{_≡_, refl}
 use Rattle.recipe.specs.Weighted.{weightedLength}
 use Rattle.recipe.proofs.Numerators.{length-small}
-use Rattle.recipe.proofs.Axes.{taps-sizes, length-passed}
+use Rattle.recipe.proofs.Axes.{taps-sizes, length-passed, length-most}
 use borrow.Author.Needs.{needs}
 use Rattle.recipe.proofs.weighted.bytes.Statement.{statement}
 use Rattle.recipe.proofs.weighted.bytes.Tie as tie
@@ -51,7 +51,9 @@ returns : tie.Need-returns
 unfolding weightedLength
 returns c =
     let a = c .before .before .before .before .before .before .before .args in
-    rw (c .weight-length .ensures, c .before .sizes-length .ensures .0, c .before .before .wide2 .ensures .0, c .before .before .before .before .wide .ensures .0) (refl, length-passed (a .real) (now (a .part)) (λ i. c .before .before .before .before .before .before .shared-slice-known .given i .fits) (c .before .before .before .before .before .before .before .pre))
+    let p = length-passed (a .real) (now (a .part)) (λ i. c .before .before .before .before .before .before .shared-slice-known .given i .fits) (c .before .before .before .before .before .before .before .pre) in
+    let q = length-most (a .real) (now (a .part)) (λ i. c .before .before .before .before .before .before .shared-slice-known .given i .fits) (c .before .before .before .before .before .before .before .pre) in
+    rw (c .weight-length .ensures, c .before .sizes-length .ensures .0, c .before .before .wide2 .ensures .0, c .before .before .before .before .wide .ensures .0) (refl, p, q)
 
 pub bytes-spec : {M : Type 1} → statement M
 bytes-spec =
