@@ -9,3 +9,5 @@ pub mod Axes
 pub mod Accepted
 pub mod ByKind
 pub mod Readiness
+pub mod Chain
+pub mod Works

@@ -1,10 +1,74 @@
 // Recipes: from a lab's bytes to stages, weights and the tolerance.
 pub mod check;
+pub mod stage;
 pub mod taps;
 pub mod weighted;
-pub mod stage;
+
+use refusals::Verdict;
+use stage::Stage;
+use stage::Work;
+use tolerance::Tolerance;
+ghost use mathlib.Core.Path.{_≡_};
+ghost use Prim.Native.Nat.{_≤_};
+ghost use Rattle.model.specs.Stage as Model;
+ghost use Rattle.model.specs.Tolerance.{afterStage};
+ghost use Rattle.recipe.specs.Stands.{Stands};
+ghost use Rattle.recipe.specs.Recipe.{recipeOf};
 
 pub enum Recipe {
     Refused(u8),
     Stages { count: u8, tolerance: u64 },
+}
+
+// The tolerance after one more stage.
+fn after(total: Tolerance, s: Stage) -> Tolerance
+    requires { ⌜ (total .units ≤ 16711680) × ((t : Model.Stage) × Stands s t) ⌝ }
+    ensures { λ r. ⌜ (r .units ≤ 16711680) × ((t : Model.Stage) → Stands s t → r .units ≡ afterStage (total .units) t) ⌝ }
+{
+    let work = s.work;
+    let across = s.across;
+    let down = s.down;
+    match work {
+        Work::Weighted => total.after_weighted(across.gain, down.gain, across.len, down.len),
+        Work::Boxed { r: _, s: _ } => total.after_box(),
+        Work::Ranked { r: _, s: _, p: _ } => total.after_rank(),
+    }
+}
+
+// Read a recipe: how many stages it has, and T.
+pub fn read_recipe(recipe: &[u8]) -> Recipe
+    ensures { λ r. ⌜ r ≡ recipeOf (now (recipe .entry)) ⌝ }
+{
+    if recipe.len() < 1 {
+        return Recipe::Refused(refusals::CUT);
+    }
+    let count = recipe[0];
+    if count < 1 {
+        return Recipe::Refused(refusals::STAGE_COUNT);
+    }
+    if 8 < count {
+        return Recipe::Refused(refusals::STAGE_COUNT);
+    }
+    let mut at = 1;
+    let mut k: u8 = 0;
+    let mut total = Tolerance::start();
+    while k < count {
+        let found = stage::tests(&recipe[at..]);
+        k += 1;
+        match found {
+            Verdict::Refused(n) => {
+                return Recipe::Refused(n);
+            }
+            Verdict::Passed => {
+                let s = stage::read_stage(&recipe[at..]);
+                at += s.len;
+                total = after(total, s);
+            }
+        }
+    }
+    if at < recipe.len() {
+        return Recipe::Refused(refusals::TRAILING);
+    }
+    let tolerance = total.units;
+    Recipe::Stages { count, tolerance }
 }

@@ -141,7 +141,7 @@ fn work_length(part: &[u8], kind: u8) -> usize
 // The stage at the front of a part, by value, with its length: the next begins there.
 pub fn read_stage(part: &[u8]) -> Stage
     requires { ⌜ verdict (stageTests (now part)) ≡ Passed ⌝ }
-    ensures { λ r. ⌜ Stands r (stageOf (now (part .entry))) × (r .len ≡ stageLength (now (part .entry))) × (r .len ≤ length (now (part .entry))) ⌝ }
+    ensures { λ r. ⌜ Stands r (stageOf (now (part .entry))) × (r .len ≡ stageLength (now (part .entry))) × (r .len ≤ length (now (part .entry))) × (r .len ≤ 8195) ⌝ }
 {
     let kind = part[0];
     let border = border_of(part[1]);

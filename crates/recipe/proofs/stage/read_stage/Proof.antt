@@ -77,8 +77,7 @@ returns c =
     let b = now (c .before .before .before .before .before .before .before .before .before .before .before .before .args .part) in
     let k = known b (c .before .before .before .before .before .before .before .before .before .before .before .before .pre) in
     let m = tail-mid 3 b in
-    let l = c .before .before .before .before .before .work-length .ensures in
-    (
+    let l = c .before .before .before .before .before .work-length .ensures in (
       record {
         border = c .before .before .before .before .before .before .before .before .border-of .ensures;
         value = refl;
@@ -86,6 +85,7 @@ returns c =
       },
       ap (λ (n : ℕ). 3 + n) (l .0 ∙ ap (workLength (at b 0)) m),
       omega (arith, l .1, ap length m, length-drop 3 b, k .there),
+      omega (arith, l .2),
     )
 
 sub-window-work : tie.Need-sub-window-work
@@ -114,8 +114,7 @@ returns-2 c =
     let b = now (c .before .before .before .before .before .before .before .before .before .before .before .before .args .part) in
     let k = known b (c .before .before .before .before .before .before .before .before .before .before .before .before .pre) in
     let m = tail-mid 3 b in
-    let l = c .before .before .before .before .before .work-length .ensures in
-    (
+    let l = c .before .before .before .before .before .work-length .ensures in (
       record {
         border = c .before .before .before .before .before .before .before .before .border-of .ensures;
         value = refl;
@@ -123,6 +122,7 @@ returns-2 c =
       },
       ap (λ (n : ℕ). 3 + n) (l .0 ∙ ap (workLength (at b 0)) m),
       omega (arith, l .1, ap length m, length-drop 3 b, k .there),
+      omega (arith, l .2),
     )
 
 pub read-stage-spec : {M : Type 1} → statement M

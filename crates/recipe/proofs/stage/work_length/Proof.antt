@@ -15,7 +15,6 @@ five : (b : List ℕ) (kind : ℕ) → kind ≡ 5 → 4 ≡ workLength kind b
 unfolding workLength
 five b kind e = rw e
 
-
 bytes-requires : tie.Need-bytes-requires
 bytes-requires c κs =
     let a = c .before .before .args in
