@@ -1,8 +1,9 @@
 // Calls the library on each file that its arguments name, and prints what the calls answer.
-// An argument is the path of a still: `still` in a folder of `vectors/`, or a file of `tools/`.
+// An argument is the path of a still (`still` in a folder of `vectors/`, or a file of `tools/`) or of a recipe (`recipe` in a folder of `vectors/`).
 use libc::STDOUT_FILENO;
 use netpbm::read::Still;
 use netpbm::write::Written;
+use recipe::Recipe;
 
 fn say(text: &[u8]) {
     io::write_all(STDOUT_FILENO, text);
@@ -92,7 +93,39 @@ fn show_again(bytes: &[u8]) {
     }
 }
 
-// The still that a path names, or `no file` where it cannot be opened.
+fn stages(count: u8, tolerance: u64) {
+    say(b" ok");
+    number(count as usize);
+    say(b" ");
+    io::print_decimal(STDOUT_FILENO, tolerance);
+    say(b"\n");
+}
+
+fn show_recipe(bytes: &[u8]) {
+    say(b"  stages");
+    match recipe::read_recipe(bytes) {
+        Recipe::Refused(n) => refused(n),
+        Recipe::Stages { count, tolerance } => stages(count, tolerance),
+    }
+}
+
+// Whether a path ends as `recipe` does: no still's path ends so.
+fn names_recipe(path: &[u8]) -> bool {
+    if path.len() < 1 {
+        return false;
+    }
+    path[path.len() - 1] == 101
+}
+
+fn show(bytes: &[u8], as_recipe: bool) {
+    if as_recipe {
+        show_recipe(bytes);
+    } else {
+        show_still(bytes);
+    }
+}
+
+// The file that a path names, or `no file` where it cannot be opened.
 fn show_file(path: &[u8]) {
     let mut bytes = io::large_buffer();
     let fd = os::open_read(path);
@@ -102,7 +135,7 @@ fn show_file(path: &[u8]) {
     }
     let n = io::read_full(fd, &mut bytes);
     libc::close(fd);
-    show_still(&bytes[..n]);
+    show(&bytes[..n], names_recipe(path));
 }
 
 fn show_case(i: usize) {

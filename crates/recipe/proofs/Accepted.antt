@@ -1,5 +1,5 @@
 -- What bytes that pass a recipe's tests have, part by part, and that a recipe that is read gives sound stages, S of them, and their tolerance. Assumes nothing.
-use Prim.Native.Nat.{ℕ, zero, suc, _+_, _*_, _≤_, _<_}
+use Prim.Native.Nat.{ℕ, zero, suc, _+_, _*_, _≤_}
 use native.Mathlib.Omega.{arith}
 use mathlib.Core.Path.{_≡_, refl, sym, ap, _∙_}
 use mathlib.Core.Bool.{Bool, true, false, _&&_}
@@ -18,7 +18,7 @@ use Rattle.model.specs.Sound.{SoundWork, Sound, Bytes}
 use Rattle.model.specs.Tolerance.{tolerance}
 use Rattle.recipe.specs.declared.Recipe.the-variants.{Refused, Stages}
 use Rattle.recipe.specs.Bytes.{at, word, there}
-use Rattle.recipe.specs.Weighted.{isCount, sizesLength, divisorAt, sizeTests, kernelAt, across, down, tapTests, gainTests, weightedTests, weightedWork}
+use Rattle.recipe.specs.Weighted.{sizeTests, kernelAt, across, down, tapTests, gainTests, weightedTests, weightedWork}
 use Rattle.recipe.specs.Stage.{headTests, radiusTests, positionTests, workTests, workOf, stageTests, stageLength, stageOf}
 use Rattle.recipe.proofs.Axes.{sizes-passed}
 use Rattle.recipe.specs.Recipe.{stagesTests, stagesOf, recipeTests, recipeStages, recipeOf}

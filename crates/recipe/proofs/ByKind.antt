@@ -1,19 +1,19 @@
 -- The kinds one by one, and what passing the tests of a stage's kind shows. Assumes nothing.
-use Prim.Native.Nat.{ℕ, zero, suc, _+_, _-_, _*_, _≤_, _<_}
+use Prim.Native.Nat.{ℕ, zero, suc, _-_, _≤_}
 use native.Mathlib.Omega.{arith}
-use mathlib.Core.Path.{_≡_, refl, sym, ap, _∙_}
-use mathlib.Core.Bool.{Bool, true, false, cond}
-use mathlib.Core.List.{List, [], _∷_, _++_}
-use lib.ListN.{length, take, drop, length-drop}
-use lib.Dec.{eqb, leb}
+use mathlib.Core.Path.{_≡_, refl, ap, _∙_}
+use mathlib.Core.Bool.{Bool}
+use mathlib.Core.List.{List, _++_}
+use lib.ListN.{length, take, drop}
+use lib.Dec.{eqb}
 use borrow.Author.Tests.{ne-eqb}
-use Rattle.refusals.specs.Refusal.{Test, verdict}
-use Rattle.refusals.specs.declared.Verdict.the-variants.{Refused, Passed}
-use Rattle.refusals.proofs.Passed.{AllPass, all-pass, all-append, passed-all}
-use Rattle.model.specs.Stage.{Work, weighted, box, rank}
-use Rattle.recipe.specs.Bytes.{at, word}
+use Rattle.refusals.specs.Refusal.{verdict}
+use Rattle.refusals.specs.declared.Verdict.the-variants.{Passed}
+use Rattle.refusals.proofs.Passed.{all-pass, all-append, passed-all}
+use Rattle.model.specs.Stage.{Work, weighted}
+use Rattle.recipe.specs.Bytes.{at}
 use Rattle.recipe.specs.Weighted.{tapTests, gainTests, weightedTests, weightedLength, weightedWork}
-use Rattle.recipe.specs.Stage.{headTests, radiusTests, positionTests, workTests, workLength, workOf, stageTests, stageLength}
+use Rattle.recipe.specs.Stage.{headTests, radiusTests, positionTests, workTests, workLength, workOf, stageTests}
 use Rattle.recipe.specs.declared.stage.Work as Code
 use Rattle.recipe.specs.declared.stage.Stage.{Stage}
 use Rattle.recipe.specs.Stands.{acrossOf, downOf, windowOf, Does}

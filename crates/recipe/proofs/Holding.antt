@@ -1,5 +1,5 @@
 -- Offsets and numerators that are held stand for those of the bytes. Assumes nothing.
-use Prim.Native.Nat.{ℕ, _+_, _-_, _*_, _%_, _^_, _≤_, _<_}
+use Prim.Native.Nat.{ℕ, _+_, _-_, _*_, _%_, _≤_, _<_}
 use native.Mathlib.Omega.{arith}
 use mathlib.Core.Path.{_≡_, refl, sym, ap, _∙_}
 use mathlib.Core.Bool.{Bool, true, false, not, cond}
@@ -10,7 +10,7 @@ use lib.Dec.{T, ltb, ltb→lt, nltb→le}
 use lib.IntN.{ℤ, pos, negsuc, natAbs, _+ℤ_, _-ℤ_}
 use Rattle.weights.specs.Bits.{accepted}
 use lib.Signed.{nonNeg}
-use Rattle.integers.proofs.Parts.{posPart, negPart, parts-ext, abs-parts, add-parts, sub-parts}
+use Rattle.integers.proofs.Parts.{negPart, parts-ext, abs-parts, add-parts, sub-parts}
 use Rattle.integers.proofs.Machine.{biased-nat}
 use Rattle.lists.specs.Tabulate.{tabulate}
 use Rattle.lists.proofs.Tabulate.{getD-tabulate, tabulate-ext}

@@ -1,20 +1,18 @@
 -- The offsets of an axis, tested one by one. The code holds an offset 128 too large. Assumes nothing.
-use Prim.Native.Nat.{ℕ, zero, suc, _+_, _-_, _≤_, _<_}
-use native.Mathlib.Nat.{not-suc-le-zero}
+use Prim.Native.Nat.{ℕ, suc, _+_, _-_, _≤_, _<_}
 use native.Mathlib.Omega.{arith}
-use mathlib.Core.Path.{_≡_, refl, sym, ap, _∙_}
+use mathlib.Core.Path.{_≡_, refl, ap, _∙_}
 use mathlib.Core.Bool.{Bool, true, false, cond, _&&_, and-false}
-use mathlib.Core.List.{List, []}
+use mathlib.Core.List.{List}
 use lib.ListN.{length, getD, drop, length-drop}
 use lib.Seq.{drop-drop, getD-drop}
-use lib.Dec.{T, ltb, leb, leb→le, le→leb}
-use lib.IntN.{ℤ, pos, negsuc, negℤ, _+ℤ_, _-ℤ_}
+use lib.IntN.{ℤ, pos, negsuc, _+ℤ_, _-ℤ_}
 use lib.Signed.{leZ}
 use borrow.Author.Tests.{lt-ltb, le-ltb, le-leb, lt-leb}
 use Rattle.integers.proofs.Parts.{posPart, negPart, parts-ext, add-parts, sub-parts}
 use Rattle.refusals.specs.Refusal.{verdict}
 use Rattle.refusals.specs.declared.Verdict.the-variants.{Refused, Passed}
-use Rattle.recipe.specs.Bytes.{at, signed8, there}
+use Rattle.recipe.specs.Bytes.{signed8, there}
 use Rattle.recipe.specs.Weighted.{offsetTests, axisTests}
 
 pub raised-low : (b : ℕ) → b < 128 → pos (b + 128) ≡ signed8 b +ℤ pos 128

@@ -1,16 +1,16 @@
 -- The weights of a stage of reals, tested one by one. Assumes nothing.
-use Prim.Native.Nat.{ℕ, zero, suc, _+_, _-_, _*_, _≤_, _<_}
+use Prim.Native.Nat.{ℕ, suc, _+_, _-_, _≤_, _<_}
 use native.Mathlib.Omega.{arith}
-use mathlib.Core.Path.{_≡_, refl, sym, ap, _∙_}
+use mathlib.Core.Path.{_≡_, _∙_}
 use mathlib.Core.Bool.{true, false, cond}
 use mathlib.Core.List.{List}
-use lib.ListN.{length, getD, drop, length-drop}
+use lib.ListN.{length, drop, length-drop}
 use lib.Seq.{drop-drop, getD-drop}
 use borrow.Author.Tests.{le-leb, lt-leb}
-use Rattle.weights.specs.Bits.{pattern, accepted}
+use Rattle.weights.specs.Bits.{accepted}
 use Rattle.refusals.specs.Refusal.{verdict}
 use Rattle.refusals.specs.declared.Verdict.the-variants.{Refused, Passed}
-use Rattle.recipe.specs.Bytes.{at, bits, there}
+use Rattle.recipe.specs.Bytes.{bits, there}
 use Rattle.recipe.specs.Weighted.{realTests}
 
 bits-drop : (a : ℕ) (part : List ℕ) → bits (drop a part) 0 ≡ bits part a

@@ -1,6 +1,6 @@
 -- T after a stage that the code holds is T after the stage that it stands for. Assumes nothing.
 use Prim.Native.Nat.{ℕ, _+_, _≤_, min}
-use mathlib.Core.Path.{_≡_, refl, sym, ap, _∙_}
+use mathlib.Core.Path.{_≡_, sym, _∙_}
 use Rattle.model.specs.Stage as Model
 use Rattle.model.specs.Tolerance.{weightedGrowth, afterStage}
 use Rattle.tolerance.proofs.Growth.{after-weighted, after-box, after-rank}

@@ -10,7 +10,7 @@ use Rattle.model.specs.Stage.{Stage}
 use Rattle.model.specs.Tolerance.{tolerance}
 use Rattle.recipe.specs.declared.Recipe.{Recipe}
 use Rattle.recipe.specs.declared.Recipe.the-variants.{Refused, Stages}
-use Rattle.recipe.specs.Bytes.{at, there, field}
+use Rattle.recipe.specs.Bytes.{at, field}
 use Rattle.recipe.specs.Stage.{stageTests, stageLength, stageOf}
 
 -- k stages one after the other; "then the end": "bytes after the last stage"

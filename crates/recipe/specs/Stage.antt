@@ -1,7 +1,7 @@
 -- A stage's bytes: "kind, border, border value (0 unless border is 0). Then" the fields of its kind.
-use Prim.Native.Nat.{ℕ, zero, suc, _+_}
-use mathlib.Core.Bool.{Bool, true, false, cond, _&&_, _||_}
-use mathlib.Core.List.{List, [], _∷_, _++_}
+use Prim.Native.Nat.{ℕ, _+_}
+use mathlib.Core.Bool.{true, false, cond, _&&_, _||_}
+use mathlib.Core.List.{List, _++_}
 use lib.ListN.{drop}
 use lib.Dec.{leb, eqb}
 use Rattle.refusals.specs.Refusal as Refusal
