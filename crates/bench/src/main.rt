@@ -1,0 +1,48 @@
+// Document 01's two examples of weights into 65,536ths, run: whether each weight that comes out is the paper's.
+use libc::STDOUT_FILENO;
+use refusals::Verdict;
+
+fn say(text: &[u8]) {
+    io::write_all(STDOUT_FILENO, text);
+}
+
+fn compare(found: i32, wanted: i32) {
+    if found == wanted {
+        say(b" yes");
+    } else {
+        say(b" no");
+    }
+}
+
+// A stage of three ratios over 3 at -1 0 1 across, and 1 over 1 at 0 down: its weights across, against three that are wanted.
+fn show(stage: &[u8], a: i32, b: i32, c: i32) {
+    match recipe::stage::tests(stage) {
+        Verdict::Refused(_) => say(b" refused"),
+        Verdict::Passed => {
+            let read = recipe::stage::read_stage(stage);
+            let axis = read.across;
+            let weights = axis.weights;
+            compare(weights[0], a);
+            compare(weights[1], b);
+            compare(weights[2], c);
+        }
+    }
+    say(b"\n");
+}
+
+fn main() {
+    say(b"1 1 1 over 3: 21846 21845 21845");
+    show(
+        b"\x01\x01\x00\x03\x01\x00\x03\x00\x01\xff\x00\x01\x00\x00\x01\x00\x01\x00\x01\x00\x01",
+        21846,
+        21845,
+        21845,
+    );
+    say(b"-1 -1 5 over 3: -21845 -21845 109226");
+    show(
+        b"\x01\x01\x00\x03\x01\x00\x03\x00\x01\xff\x00\x01\x00\xff\xff\xff\xff\x00\x05\x00\x01",
+        -21845,
+        -21845,
+        109226,
+    );
+}
