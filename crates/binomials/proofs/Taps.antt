@@ -62,4 +62,5 @@ module _ (r : ℕ) (h : r ≤ 15) (offsets values : List ℕ)
     numerators-fit = omega arith;
     gain = rw taps-are (omega (arith, binomial-magnitude r));
     rising = rw taps-are (binomial-rising r);
+    near = λ k l. rw (entry _ offsets (2 * r + 1) k o l) (omega arith);
   }

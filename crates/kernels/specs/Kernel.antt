@@ -34,7 +34,7 @@ remainderOf value divisor = modulo (pos 65536 *ℤ numeratorOf value) divisor
 unfoldable pub before : ℕ → ℕ → ℕ → ℕ → Bool
 before r o s p = ltb s r || eqb r s && ltb o p
 
--- what a recipe keeps to: a divisor of at most 2^35, at most 31 taps, a gain of at most 4, offsets that rise
+-- what a recipe keeps to: a divisor of at most 2^35, at most 31 taps, a gain of at most 4, offsets that rise, held as 0 to 30
 pub record Limits (divisor : ℕ) (offsets numerators : List ℕ) (n : ℕ) : Type 0 where
   pub some : 0 < divisor
   pub few : divisor ≤ 2 ^ 35
@@ -43,6 +43,7 @@ pub record Limits (divisor : ℕ) (offsets numerators : List ℕ) (n : ℕ) : Ty
   pub numerators-fit : n ≤ length numerators
   pub gain : magnitude (tabulate (tapOf offsets numerators) n) ≤ 4 * divisor
   pub rising : Rising (tabulate (tapOf offsets numerators) n)
+  pub near : (i : ℕ) → i < n → getD offsets i 0 ≤ 30
 
 -- the weights of an axis in 65,536ths, and its gain, are the model's
 pub record Shared (K : Model.Kernel) (weights : List ℤ) (n gain : ℕ) : Type 0 where

@@ -10,8 +10,9 @@ use borrow.Author.Tests.{ne-eqb}
 use Rattle.refusals.specs.Refusal.{verdict}
 use Rattle.refusals.specs.declared.Verdict.the-variants.{Passed}
 use Rattle.refusals.proofs.Passed.{all-pass, all-append, passed-all}
+use Rattle.model.specs.Window.{area}
 use Rattle.model.specs.Stage.{Work, weighted}
-use Rattle.recipe.specs.Bytes.{at}
+use Rattle.recipe.specs.Bytes.{at, word}
 use Rattle.recipe.specs.Weighted.{tapTests, gainTests, weightedTests, weightedLength, weightedWork}
 use Rattle.recipe.specs.Stage.{headTests, radiusTests, positionTests, workTests, workLength, workOf, stageTests}
 use Rattle.recipe.specs.declared.stage.Work as Code
@@ -49,21 +50,21 @@ module _ (b : List ℕ) where
   radii-kind (suc (suc (suc (suc (suc zero))))) l h e = radius-passed b (all-append (radiusTests b) (positionTests b) (all-pass (radiusTests b ++ positionTests b) e) .0)
   radii-kind (suc (suc (suc (suc (suc (suc k)))))) l h e = absurd (omega arith)
 
-  -- kind 5: the position is there
-  pub position-there : verdict (workTests 5 b) ≡ Passed → 4 ≤ length b
+  -- kind 5: the position is there, and from 1 to the area
+  pub position-kind : verdict (workTests 5 b) ≡ Passed → (1 ≤ word b 2) × (word b 2 ≤ area (at b 0) (at b 1)) × (4 ≤ length b)
   unfolding workTests
-  position-there e = position-passed b (all-append (radiusTests b) (positionTests b) (all-pass (radiusTests b ++ positionTests b) e) .1) .2
+  position-kind e = position-passed b (all-append (radiusTests b) (positionTests b) (all-pass (radiusTests b ++ positionTests b) e) .1)
 
-  -- kinds 4 and 5
-  pub window-does : (kind : ℕ) → 4 ≤ kind → kind ≤ 5 → (w : Code.Work) → w ≡ windowOf kind b → (s : Stage) → Does w s (workOf kind b)
+  -- kinds 4 and 5: the work is that of the bytes, and the tests bound its radii and its position
+  pub window-does : (kind : ℕ) → 4 ≤ kind → kind ≤ 5 → verdict (workTests kind b) ≡ Passed → (w : Code.Work) → w ≡ windowOf kind b → (s : Stage) → Does w s (workOf kind b)
   unfolding workOf windowOf
-  window-does zero l h w e s = absurd (omega arith)
-  window-does (suc zero) l h w e s = absurd (omega arith)
-  window-does (suc (suc zero)) l h w e s = absurd (omega arith)
-  window-does (suc (suc (suc zero))) l h w e s = absurd (omega arith)
-  window-does (suc (suc (suc (suc zero)))) l h w e s = rw e refl
-  window-does (suc (suc (suc (suc (suc zero))))) l h w e s = rw e refl
-  window-does (suc (suc (suc (suc (suc (suc k)))))) l h w e s = absurd (omega arith)
+  window-does zero l h v w e s = absurd (omega arith)
+  window-does (suc zero) l h v w e s = absurd (omega arith)
+  window-does (suc (suc zero)) l h v w e s = absurd (omega arith)
+  window-does (suc (suc (suc zero))) l h v w e s = absurd (omega arith)
+  window-does (suc (suc (suc (suc zero)))) l h v w e s = let r = radii-kind 4 (omega arith) h v in rw e (refl, r .0, r .1)
+  window-does (suc (suc (suc (suc (suc zero))))) l h v w e s = let r = radii-kind 5 (omega arith) h v in let p = position-kind v in rw e (refl, r .0, r .1, p .0, p .1)
+  window-does (suc (suc (suc (suc (suc (suc k)))))) l h v w e s = absurd (omega arith)
 
   -- the lengths of the other kinds
   pub window-length : (kind : ℕ) → 3 ≤ kind → (kind ≡ 5 → ⊥) → workLength kind b ≡ 2

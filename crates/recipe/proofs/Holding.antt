@@ -31,6 +31,11 @@ offset-back x s h = go (ltb x 128) (ltb→lt x 128) (nltb→le x 128)
     go true low high = parts-ext _ _ (omega (arith, low tt, sub-parts (pos ((x + 128) % 256 - 113)) (pos 15)))
     go false low high = parts-ext _ _ (omega (arith, high tt, sub-parts (pos ((x + 128) % 256 - 113)) (pos 15), sub-parts (pos x) (pos 256)))
 
+-- the test bounds the raised offset by 143, and it is held 113 less
+offset-near : (x : ℕ) → (x + 128) % 256 ≤ 143 → heldOffset x ≤ 30
+unfolding heldOffset
+offset-near x h = omega arith
+
 no-low : (z : ℤ) → T (nonNeg z) → negPart z ≡ 0
 no-low (pos n) h = refl
 no-low (negsuc n) h = absurd h
@@ -69,6 +74,7 @@ module _ (real : Bool) (D : ℕ) (b : List ℕ) (n o w : ℕ) (bytes : (i : ℕ)
       record {
         is = ap (kernel D) (tabulate-ext _ _ n same);
         offsets-fit = a;
+        offsets-near = λ i h. rw (entry offsets _ n i h e) (offset-near _ (t .offsets-right i h .1));
         values-fit = c;
         values-small = λ i h. rw (entry values _ n i h f) (held-small _ (numerator-within i h));
       }

@@ -35,6 +35,7 @@ module _ {offsets values : List ℕ} {n D : ℕ} where
     numerators-fit = k .fit;
     gain = subst (λ (K : Kernel). magnitude (K .taps) ≤ 4 * K .divisor) (sym (h .is)) g;
     rising = subst (λ (K : Kernel). Rising (K .taps)) (sym (h .is)) r;
+    near = h .offsets-near;
   }
 
   pub ready : {K : Kernel} {places : List ℕ} {weights : List ℤ} {m gain : ℕ} → kernelOf D offsets values n ≡ K → Limits D offsets values n → places ≡ offsets
@@ -45,6 +46,8 @@ module _ {offsets values : List ℕ} {n D : ℕ} where
     places = at-places;
     few = omega (arith, l .taps, count);
     limited = limited;
+    divided = l .some;
+    near = λ i h. rw f (l .near i (omega (arith, h, count)));
   }
     where
       count : m ≡ n

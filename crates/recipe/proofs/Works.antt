@@ -25,7 +25,7 @@ module _ (s : Stage) (t : Model.Stage) (h : Stands s t) where
         f ∙ growth-same T (d .3 .shared .scaled-gain) (d .4 .shared .scaled-gain) (d .3 .shared .count) (d .4 .shared .count) ∙ sym (after-weighted T t (d .2))
 
   pub box-after : (T : ℕ) {r q units : ℕ} → s .work ≡ Boxed r q → units ≡ min (T + 32768) 16711680 → units ≡ afterStage T t
-  box-after T {r} {q} e f = let d : Does (Boxed r q) s (t .work) = rw e at (h .work) in f ∙ sym (after-box T t d)
+  box-after T {r} {q} e f = let d : Does (Boxed r q) s (t .work) = rw e at (h .work) in f ∙ sym (after-box T t (d .0))
 
   pub rank-after : (T : ℕ) {r q p units : ℕ} → s .work ≡ Ranked r q p → units ≡ min T 16711680 → units ≡ afterStage T t
-  rank-after T {r} {q} {p} e f = let d : Does (Ranked r q p) s (t .work) = rw e at (h .work) in f ∙ sym (after-rank T t d)
+  rank-after T {r} {q} {p} e f = let d : Does (Ranked r q p) s (t .work) = rw e at (h .work) in f ∙ sym (after-rank T t (d .0))

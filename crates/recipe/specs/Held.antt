@@ -33,6 +33,7 @@ pub record Tested (real : Bool) (b : List ℕ) (n o w : ℕ) : Type 0 where
 pub record Holds (offsets values : List ℕ) (n divisor : ℕ) (K : Model.Kernel) : Type 0 where
   pub is : kernelOf divisor offsets values n ≡ K
   pub offsets-fit : 31 ≡ length offsets
+  pub offsets-near : (i : ℕ) → i < n → getD offsets i 0 ≤ 30
   pub values-fit : 31 ≡ length values
   pub values-small : (i : ℕ) → i < n → getD values i 0 ≤ 2 ^ 39
 

@@ -1,5 +1,5 @@
 -- A stage as the code holds it, and the model's stage that it stands for.
-use Prim.Native.Nat.{ℕ, _^_, _≤_}
+use Prim.Native.Nat.{ℕ, _^_, _≤_, _<_}
 use mathlib.Core.Path.{_≡_}
 use mathlib.Core.Bool.{cond}
 use mathlib.Core.List.{List, map}
@@ -10,6 +10,7 @@ use Rattle.lists.specs.Tabulate.{tabulate}
 use Rattle.model.specs.Kernel.{Kernel}
 use Rattle.model.specs.Binomial.{binomial}
 use Rattle.model.specs.Border as Edge
+use Rattle.model.specs.Window.{area}
 use Rattle.model.specs.Stage as Model
 use Rattle.kernels.specs.Kernel.{offsetOf, Shared}
 use Rattle.recipe.specs.declared.stage.Border.{Border}
@@ -38,21 +39,23 @@ downOf kind b = cond (eqb kind 3) (binomial (at b 1)) (down (eqb kind 2) b)
 unfoldable pub windowOf : ℕ → List ℕ → Work
 windowOf kind b = cond (eqb kind 4) (Boxed (at b 0) (at b 1)) (Ranked (at b 0) (at b 1) (word b 2))
 
--- an axis that is ready for use: offsets held 15 too large, weights in 65,536ths, and the gain
+-- an axis that is ready for use: offsets held 15 too large, as 0 to 30, weights in 65,536ths, and the gain
 pub record Ready (K : Kernel) (offsets : List ℕ) (weights : List ℤ) (n gain : ℕ) : Type 0 where
   pub shared : Shared K weights n gain
   pub places : tabulate (λ i. offsetOf (getD offsets i 0)) n ≡ map (λ t. t .offset) (K .taps)
   pub few : n ≤ 31
   pub limited : gain ≤ 2 ^ 18
+  pub divided : 0 < K .divisor
+  pub near : (i : ℕ) → i < n → getD offsets i 0 ≤ 30
 
--- what a stage's work is
+-- what a stage's work is, with radii of at most 15 and a position from 1 to the area
 abbrev pub Does : Work → Stage → Model.Work → Type 0
 Does Weighted s w =
     (K : Kernel) × (L : Kernel) × (w ≡ Model.weighted K L)
     × Ready K (s .across .offsets) (s .across .weights) (s .across .len) (s .across .gain)
     × Ready L (s .down .offsets) (s .down .weights) (s .down .len) (s .down .gain)
-Does (Boxed r q) s w = w ≡ Model.box r q
-Does (Ranked r q p) s w = w ≡ Model.rank r q p
+Does (Boxed r q) s w = (w ≡ Model.box r q) × (r ≤ 15) × (q ≤ 15)
+Does (Ranked r q p) s w = (w ≡ Model.rank r q p) × (r ≤ 15) × (q ≤ 15) × (1 ≤ p) × (p ≤ area r q)
 
 pub record Stands (s : Stage) (t : Model.Stage) : Type 0 where
   pub border : borderIs (s .border) ≡ t .border

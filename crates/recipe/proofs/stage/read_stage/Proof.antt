@@ -118,7 +118,7 @@ returns-2 c =
       record {
         border = c .before .before .before .before .before .before .before .before .border-of .ensures;
         value = refl;
-        work = window-does (drop 3 b) (at b 0) (omega (arith, c .before .before .before .before .if1 .left)) (k .high) (c .before .before .window-work .result) (rw m at (c .before .before .window-work .ensures)) _;
+        work = window-does (drop 3 b) (at b 0) (omega (arith, c .before .before .before .before .if1 .left)) (k .high) (rw m at (k .fields)) (c .before .before .window-work .result) (rw m at (c .before .before .window-work .ensures)) _;
       },
       ap (λ (n : ℕ). 3 + n) (l .0 ∙ ap (workLength (at b 0)) m),
       omega (arith, l .1, ap length m, length-drop 3 b, k .there),

@@ -5,7 +5,7 @@ use Prim.Native.Nat.{_≤_}
 use mathlib.Core.Path.{_≡_, refl, subst}
 use borrow.Author.Tests.{eq-eqb, ne-eqb}
 use Rattle.recipe.specs.Stands.{windowOf}
-use Rattle.recipe.proofs.ByKind.{radii-kind, position-there}
+use Rattle.recipe.proofs.ByKind.{radii-kind, position-kind}
 use Rattle.recipe.proofs.stage.window_work.Statement.{statement}
 use Rattle.recipe.proofs.stage.window_work.Tie as tie
 
@@ -27,7 +27,7 @@ word-at-requires : tie.Need-word-at-requires
 word-at-requires c κs =
     let h = c .before .before .before .before .pre in
     let five : c .before .before .before .before .args .kind ≡ 5 = omega (arith, h .0, h .1, c .if1 .left) in
-    position-there (now (c .before .before .before .before .args .part)) (rw five at (h .2))
+    position-kind (now (c .before .before .before .before .args .part)) (rw five at (h .2)) .2
 
 returns-2 : tie.Need-returns-2
 unfolding windowOf

@@ -7,7 +7,7 @@ use lib.Dec.{eqb}
 use mathlib.Core.Path.{_≡_, refl, sym, ap, _∙_, subst}
 use Rattle.refusals.specs.Refusal.{verdict}
 use Rattle.recipe.specs.Stage.{workTests, workLength}
-use Rattle.recipe.proofs.ByKind.{weighted-kind, radii-kind, position-there, window-length, taps-part}
+use Rattle.recipe.proofs.ByKind.{weighted-kind, radii-kind, position-kind, window-length, taps-part}
 use Rattle.recipe.proofs.stage.work_length.Statement.{statement}
 use Rattle.recipe.proofs.stage.work_length.Tie as tie
 
@@ -33,7 +33,7 @@ returns-2 c =
     let a = c .before .before .before .args in
     let h = c .before .before .before .pre in
     let e : a .kind ≡ 5 = c .if2 .taken in
-    (five (now (a .part)) (a .kind) e, position-there (now (a .part)) (rw e at (h .2)), omega arith)
+    (five (now (a .part)) (a .kind) e, position-kind (now (a .part)) (rw e at (h .2)) .2, omega arith)
 
 returns-3 : tie.Need-returns-3
 returns-3 c =
