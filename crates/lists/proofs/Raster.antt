@@ -1,18 +1,18 @@
 -- Laws of `raster`, and how a loop over rows builds it.
 -- Assumes nothing.
 use mathlib.Core.Path.{_≡_, refl, sym, _∙_, subst}
-use mathlib.Core.List.{List, _++_, append-assoc}
+use mathlib.Core.List.{List, _++_}
 use Prim.Native.Nat.{ℕ, zero, suc, _+_, _-_, _*_, _≤_, _<_}
 use native.Mathlib.Nat.{not-suc-le-zero, eq-or-lt-of-le, suc-mul, zero-mul, mul-le-mul-right}
 use native.Mathlib.Numerals.{add-one}
 use native.Mathlib.Omega.{arith}
 use lib.ListN.{length, getD, drop, take, replicate, replicate-append-replicate, length-append, List·getD-append}
-use lib.Seq.{drop-drop, drop-at, take-at, getD-append-add}
+use lib.Seq.{getD-append-add}
 use mathlib.Core.Logic.{⊎-elim}
 use Rattle.lists.specs.Tabulate.{tabulate}
 use Rattle.lists.specs.Tabulate.{raster}
 use Rattle.lists.proofs.Tabulate.{length-tabulate, getD-tabulate, tabulate-ext, tabulate-const}
-use Rattle.lists.proofs.Part.{tail-mid, tail-put}
+use Rattle.lists.proofs.Part.{front-more}
 
 -- a row that is inside ends inside
 pub row-fits : (v h w : ℕ) → v < h → v * w + w ≤ h * w
@@ -38,9 +38,7 @@ module _ {A : Type 0} where
       → part ≡ tabulate (λ u. g u v) w ++ drop w (take (length l - at) (drop at l))
       → take at l ++ (part ++ drop (length l - at) (drop at l)) ≡ raster g w (v + 1) ++ drop (at + w) d
   unfolding raster
-  rows-more g w v at d l part e f el ep =
-      let n : length (raster g w v) ≡ at = length-raster g w v ∙ sym e in
-      rw (tail-put at l part, ep, tail-mid at l, el, take-at _ (drop at d) at n, drop-at _ (drop at d) at n, drop-drop, add-one, append-assoc)
+  rows-more g w v at d l part e f el ep = rw add-one (front-more (raster g w v) (tabulate (λ u. g u v) w) d l part at w (length-raster g w v ∙ sym e) el ep)
 
   -- what stands at column u and row v
   pub getD-raster : (g : ℕ → ℕ → A) (w h u v : ℕ) (d : A) → u < w → v < h → getD (raster g w h) (v * w + u) d ≡ g u v

@@ -9,7 +9,7 @@ use native.Mathlib.Numerals.{add-one}
 use native.Mathlib.Omega.{arith}
 use lib.ListN.{length, getD, set, take, drop, length-append, length-drop, replicate}
 use Rattle.lists.specs.Tabulate.{tabulate}
-use Rattle.lists.proofs.Part.{tail-mid, drop-past}
+use Rattle.lists.proofs.Part.{tail-mid, drop-past, front-more}
 
 module _ {A : Type 0} where
   pub length-tabulate : (f : ℕ → A) (n : ℕ) → length (tabulate f n) ≡ n
@@ -60,6 +60,11 @@ module _ {A : Type 0} where
   -- a part that starts past what was stored is as it was
   pub past-filled : (f : ℕ → A) (k n : ℕ) (d l : List A) → l ≡ tabulate f k ++ drop k d → k ≤ n → take (length l - n) (drop n l) ≡ drop n d
   past-filled f k n d l e h = tail-mid n l ∙ ap (λ (m : List A). drop n m) e ∙ drop-past (tabulate f k) d k n (length-tabulate f k) h
+
+  -- n entries more, stored by a function that was lent the part after the first a
+  pub fill-part : (f : ℕ → A) (a n : ℕ) (d l part : List A) → l ≡ tabulate f a ++ drop a d → part ≡ tabulate (λ i. f (a + i)) n ++ drop n (take (length l - a) (drop a l))
+      → take a l ++ (part ++ drop (length l - a) (drop a l)) ≡ tabulate f (a + n) ++ drop (a + n) d
+  fill-part f a n d l part el ep = rw (tabulate-add f a n) (front-more (tabulate f a) _ d l part a n (length-tabulate f a) el ep)
 
   pub tabulate-const : (c : A) (n : ℕ) → tabulate (λ i. c) n ≡ replicate n c
   unfolding tabulate

@@ -71,18 +71,6 @@ pub fn header(width: usize, height: usize, channels: usize) -> Head
     closing(with_number(first, height))
 }
 
-// The first n bytes of src into the front of dst.
-pub fn copy_front(src: &[u8], dst: &mut [u8], n: usize)
-    requires { ⌜ (n ≤ length (now src)) × (n ≤ length (now dst)) ⌝ }
-    ensures { λ _. ⌜ now (dst .exit) ≡ take n (now (src .entry)) ++ drop n (now (dst .entry)) ⌝ }
-{
-    let mut i = 0;
-    while i < n {
-        dst[i] = src[i];
-        i += 1;
-    }
-}
-
 pub enum Written {
     Refused(u8),
     Length(usize),
@@ -131,8 +119,8 @@ fn put(head: Head, raster: &[u8], out: &mut [u8])
 {
     let start = head.len;
     let bytes = head.bytes;
-    copy_front(&bytes, out, start);
-    copy_front(raster, &mut out[start..], raster.len());
+    buffers::copy_front(&bytes, out, start);
+    buffers::copy_front(raster, &mut out[start..], raster.len());
 }
 
 // Write a still, giving its length, or refusal 19, 3, 5, 6 or 20.

@@ -1,4 +1,4 @@
--- `netpbm::write::copy_front` meets its contract: what is stored so far, then what was there. Assumes nothing.
+-- `buffers::copy_front` meets its contract: what is stored so far, then what was there. Assumes nothing.
 use Prim.Native.Nat.{ℕ, _≤_, _-_}
 use native.Mathlib.Nat.{le-antisymm}
 use native.Mathlib.Omega.{arith}
@@ -9,8 +9,8 @@ use denote.Ref.{now}
 use Rattle.lists.specs.Tabulate.{tabulate}
 use Rattle.lists.proofs.Tabulate.{fill-none, fill-more, tabulate-getD}
 use borrow.Author.Needs.{needs}
-use Rattle.netpbm.proofs.write.copy_front.Statement.{statement}
-use Rattle.netpbm.proofs.write.copy_front.Tie as tie
+use Rattle.buffers.proofs.copy_front.Statement.{statement}
+use Rattle.buffers.proofs.copy_front.Tie as tie
 
 abbrev Inv-loop : tie.InvT-loop
 Inv-loop src dst₀ n i₀ dst i = (i ≤ n) × (dst ≡ tabulate (λ (k : ℕ). getD src k 0) i ++ drop i dst₀) × (length dst ≡ length dst₀)
