@@ -155,3 +155,13 @@ pub window-padded : (border : Border) (value W H : ℕ) (f : Plane) (r s u v : �
     → window r s (around border value W H f u v) ≡ raster (λ i j. padded border value W H f (15 - r + u + i) (15 - s + v + j)) (2 * r + 1) (2 * s + 1)
 unfolding window around padded
 window-padded border value W H f r s u v h k = raster-ext _ _ (2 * r + 1) (2 * s + 1) (λ i j _ _. rw (offset-window u i r h, offset-window v j s k))
+
+-- bytes and a border value that is a byte supply bytes
+pub padded-le : (border : Border) (value W H : ℕ) (f : Plane) (x y : ℕ) → value ≤ 255 → ((u v : ℕ) → f u v ≤ 255) → padded border value W H f x y ≤ 255
+unfolding padded pick
+padded-le border value W H f x y h k = go (supply border W (offsetOf x)) (supply border H (offsetOf y))
+  where
+    go : (a b : Option ℕ) → pick value f a b ≤ 255
+    go none b = h
+    go (some u) none = h
+    go (some u) (some v) = k u v

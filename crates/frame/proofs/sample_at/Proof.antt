@@ -1,9 +1,8 @@
 -- `frame::sample_at` meets its contract: a sample of a row of the frame, or the border value. Assumes nothing.
-use Prim.Native.Nat.{ℕ, _+_, _*_, _-_, _≤_}
+use Prim.Native.Nat.{_*_, _-_}
 use native.Mathlib.Omega.{arith}
-use mathlib.Core.Path.{_≡_, refl, sym, ap, _∙_}
-use mathlib.Core.List.{List, _++_}
-use lib.ListN.{length, drop, length-drop}
+use mathlib.Core.Path.{_∙_}
+use lib.ListN.{length-drop}
 use denote.Ref.{now}
 use Rattle.lists.proofs.Part.{tail-mid}
 use Rattle.model.proofs.Border.{supply-inside}

@@ -1,0 +1,4 @@
+pub mod Stored
+pub mod Planes
+pub mod Levels
+pub mod Window

@@ -1,0 +1,3 @@
+pub mod Walk
+pub mod Tables
+pub mod Works

@@ -1,0 +1,5 @@
+pub mod Registers
+pub mod Sums
+pub mod Turns
+pub mod Reaching
+pub mod Model

@@ -1,0 +1,86 @@
+-- `weighted::rows::add_tap` meets its contract: what is stored so far, then what was there. Assumes nothing.
+use Prim.Native.Nat.{_≤_, _-_}
+use native.Mathlib.Nat.{le-antisymm}
+use native.Mathlib.Omega.{arith}
+use mathlib.Core.Path.{_≡_, refl, _∙_}
+use mathlib.Core.List.{_++_}
+use lib.ListN.{length, getD, drop, length-set}
+use mir.Syntax.{w32}
+use mir.Val.{toZ, ofZ}
+use mir.Facts.{toZ-ofZ}
+use lib.IntN.{ℤ, pos, _+ℤ_, _*ℤ_}
+use Rattle.lists.specs.Tabulate.{tabulate}
+use Rattle.lists.proofs.Tabulate.{fill-none, fill-more}
+use Rattle.weighted.proofs.Sums.{unreached}
+use borrow.Author.Needs.{needs}
+use Rattle.weighted.proofs.rows.add_tap.Statement.{statement}
+use Rattle.weighted.proofs.rows.add_tap.Tie as tie
+use Rattle.weighted.proofs.rows.plus.Reads as plus-reads
+
+abbrev Inv-loop : tie.InvT-loop
+Inv-loop sums₀ n row weight u₀ sums u = (u ≤ n) × (sums ≡ tabulate (λ k. getD sums₀ k (pos 0) +ℤ toZ w32 weight *ℤ pos (getD row k 0)) u ++ drop u sums₀) × (length sums ≡ length sums₀)
+
+abbrev μ-loop : tie.MeasureT-loop
+μ-loop sums₀ n row weight u₀ sums u = n - u
+
+loop-holds : tie.Need-loop-holds Inv-loop μ-loop
+loop-holds c = (omega arith, fill-none _ _, refl)
+
+mul-plus : tie.Need-mul-plus Inv-loop μ-loop
+mul-plus c = search needs
+
+slice-copy-out-plus : tie.Need-slice-copy-out-plus Inv-loop μ-loop
+slice-copy-out-plus c = search needs
+
+shared-slice-read-plus : tie.Need-shared-slice-read-plus Inv-loop μ-loop
+shared-slice-read-plus c = search needs
+
+plus-requires : tie.Need-plus-requires Inv-loop μ-loop
+plus-requires c κs =
+    let L = c .before .before .before .loop in
+    let read : toZ w32 (ofZ w32 (getD (L .sums) (L .u) (pos 0))) ≡ getD (L .sums) (L .u) (pos 0) = search needs in
+    (rw (read, unreached _ (L .u) _ (L .sums) (pos 0) (L .inv .1)) (c .before .before .before .before .before .pre .3 (L .u) (c .before .before .loop-test .taken)), rw (toZ-ofZ (c .before .before .before .before .before .fits .weight)) (c .before .before .before .before .before .pre .2))
+
+mul-t13 : tie.Need-mul-t13 Inv-loop μ-loop
+mul-t13 c = search needs
+
+slice-set-from-sums : tie.Need-slice-set-from-sums Inv-loop μ-loop
+slice-set-from-sums c = search needs
+
+add-u : tie.Need-add-u Inv-loop μ-loop
+add-u c = search needs
+
+loop-less : tie.Need-loop-less Inv-loop μ-loop
+loop-less c = search needs
+
+loop-again : tie.Need-loop-again Inv-loop μ-loop
+loop-again c =
+    let L = c .before .before .before .before .loop in
+    let out : toZ w32 (ofZ w32 (c .plus .result)) ≡ c .plus .result = search needs in
+    let read : toZ w32 (ofZ w32 (getD (L .sums) (L .u) (pos 0))) ≡ getD (L .sums) (L .u) (pos 0) = search needs in
+    (omega arith, fill-more _ _ _ _ _ (omega arith) (L .inv .1) (out ∙ c .plus .ensures ∙ rw (read, unreached _ (L .u) _ (L .sums) (pos 0) (L .inv .1))), simp length-set (L .inv .2))
+
+same-length : tie.Need-same-length Inv-loop μ-loop
+same-length c = search needs
+
+returns : tie.Need-returns Inv-loop μ-loop
+returns c = rw (toZ-ofZ (c .before .before .before .fits .weight)) at (rw (le-antisymm (c .before .loop .inv .0) (c .loop-test .left)) at (c .before .loop .inv .1))
+
+pub add-tap-spec : {M : Type 1} → statement M
+add-tap-spec =
+    tie.close
+    (tie.spec
+    Inv-loop
+    μ-loop
+    loop-holds
+    mul-plus
+    slice-copy-out-plus
+    shared-slice-read-plus
+    plus-requires
+    mul-t13
+    slice-set-from-sums
+    add-u
+    loop-less
+    loop-again
+    same-length
+    returns)
