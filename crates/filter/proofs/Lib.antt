@@ -1,0 +1,4 @@
+pub mod Suffices
+pub mod Through
+pub mod Promise
+pub mod Files
