@@ -1,17 +1,16 @@
 -- Offsets and coefficients as the code holds them are the binomial kernel, which is within the limits. Assumes nothing.
-use Prim.Native.Nat.{ℕ, zero, suc, _+_, _-_, _*_, _%_, _^_, _≤_, _<_}
+use Prim.Native.Nat.{ℕ, zero, suc, _+_, _-_, _*_, _%_, _^_, _≤_}
 use native.Mathlib.Nat.{mod-eq-of-lt, one-le-pow}
 use native.Mathlib.Omega.{arith}
 use mathlib.Core.Path.{_≡_, refl, sym, ap, _∙_}
 use mathlib.Core.List.{List}
-use lib.ListN.{length, getD, take}
+use lib.ListN.{length, take}
 use lib.IntN.{ℤ, pos, _-ℤ_}
 use lib.Pow.{pow-mono}
-use lib.Seq.{getD-take}
 use Rattle.integers.specs.Sum.{sum, sumℤ}
 use Rattle.integers.proofs.Parts.{posPart, parts-ext, sub-parts}
 use Rattle.lists.specs.Tabulate.{tabulate}
-use Rattle.lists.proofs.Tabulate.{getD-tabulate, tabulate-ext}
+use Rattle.lists.proofs.Tabulate.{entry-known, tabulate-ext}
 use Rattle.model.specs.Kernel.{tap, kernel, total, magnitude}
 use Rattle.model.specs.Binomial.{choose, binomial}
 use Rattle.model.proofs.Binomial.{binomial-rising, binomial-total}
@@ -31,10 +30,6 @@ binomial-magnitude : (r : ℕ) → magnitude ((binomial r) .taps) ≡ 2 ^ (2 * r
 unfolding binomial kernel
 binomial-magnitude r = ap posPart (sym (magnitude-total (λ k. pos k -ℤ pos r) (λ k. choose (2 * r) k) (2 * r + 1)) ∙ binomial-total r)
 
--- what the front of a list holds
-entry : (f : ℕ → ℕ) (xs : List ℕ) (n k : ℕ) → take n xs ≡ tabulate f n → k < n → getD xs k 0 ≡ f k
-entry f xs n k e h = sym (getD-take n xs k 0 h) ∙ ap (λ (l : List ℕ). getD l k 0) e ∙ getD-tabulate f n k 0 h
-
 -- the two biases cancel
 tap-is : (r k c : ℕ) → r ≤ 15 → tap (offsetOf (15 + k - r)) (numeratorOf (2 ^ 38 + c)) ≡ tap (pos k -ℤ pos r) (pos c)
 unfolding offsetOf numeratorOf
@@ -47,7 +42,7 @@ module _ (r : ℕ) (h : r ≤ 15) (offsets values : List ℕ)
     (v : take (2 * r + 1) values ≡ tabulate (λ k. 2 ^ 38 + choose (2 * r) k) (2 * r + 1)) where
   taps-are : tabulate (tapOf offsets values) (2 * r + 1) ≡ (binomial r) .taps
   unfolding tapOf binomial kernel
-  taps-are = tabulate-ext _ _ (2 * r + 1) (λ k l. rw (entry _ offsets (2 * r + 1) k o l, entry _ values (2 * r + 1) k v l) (tap-is r k (choose (2 * r) k) h))
+  taps-are = tabulate-ext _ _ (2 * r + 1) (λ k l. rw (entry-known _ offsets (2 * r + 1) k 0 o l, entry-known _ values (2 * r + 1) k 0 v l) (tap-is r k (choose (2 * r) k) h))
 
   pub kernel-is : kernelOf (2 ^ (2 * r)) offsets values (2 * r + 1) ≡ binomial r
   unfolding kernelOf binomial kernel
@@ -62,5 +57,5 @@ module _ (r : ℕ) (h : r ≤ 15) (offsets values : List ℕ)
     numerators-fit = omega arith;
     gain = rw taps-are (omega (arith, binomial-magnitude r));
     rising = rw taps-are (binomial-rising r);
-    near = λ k l. rw (entry _ offsets (2 * r + 1) k o l) (omega arith);
+    near = λ k l. rw (entry-known _ offsets (2 * r + 1) k 0 o l) (omega arith);
   }

@@ -3,3 +3,4 @@ pub mod Order
 pub mod Divide
 pub mod Near
 pub mod Machine
+pub mod Registers

@@ -96,3 +96,13 @@ add-add a b c d =
 
 pub add-sub : (x y : ℤ) → x +ℤ (y -ℤ x) ≡ y
 add-sub x y = parts-ext _ _ (omega (arith, sub-parts y x, add-parts x (y -ℤ x)))
+
+-- the size of a sum, and of a product
+pub abs-add : (x y : ℤ) → natAbs (x +ℤ y) ≤ natAbs x + natAbs y
+abs-add x y = omega (arith, add-parts x y, abs-parts x, abs-parts y, abs-parts (x +ℤ y))
+
+pub abs-mul : (x y : ℤ) → natAbs (x *ℤ y) ≡ natAbs x * natAbs y
+abs-mul x y = ap2 (abs-parts (x *ℤ y)) (mul-parts x y)
+  where
+    ap2 : natAbs (x *ℤ y) ≡ posPart (x *ℤ y) + negPart (x *ℤ y) → Product x y → natAbs (x *ℤ y) ≡ natAbs x * natAbs y
+    ap2 e m = rw (abs-parts x, abs-parts y) (omega (arith, e, m))

@@ -1,26 +1,25 @@
 -- The code's test for a spare unit is the model's. Assumes nothing.
-use Prim.Native.Nat.{ℕ, zero, suc, _+_, _*_, _/_, _^_, _<_, _≤_}
+use Prim.Native.Nat.{ℕ, zero, suc, _+_, _*_, _/_, _<_, _≤_}
 use native.Mathlib.Nat.{not-suc-le-zero}
 use native.Mathlib.Omega.{arith}
 use mathlib.Core.Path.{_≡_, refl, sym, ap, _∙_}
-use mathlib.Core.Bool.{Bool, true, false, cond, _&&_, _||_}
-use mathlib.Core.List.{List, [], _∷_, map, List·Memᴰ}
-use lib.ListN.{length, getD, take}
-use lib.Seq.{getD-take}
-use lib.Dec.{ltb, eqb, ltb→lt, lt→ltb}
+use mathlib.Core.Bool.{Bool, true, false, cond}
+use mathlib.Core.List.{List, [], _∷_, map}
+use lib.ListN.{getD, take}
+use lib.Dec.{ltb, ltb→lt, lt→ltb}
 use lib.IntN.{ℤ, pos, natAbs, _+ℤ_, _-ℤ_, _*ℤ_}
 use lib.Signed.{ltZ}
-use Rattle.integers.specs.Divide.{floorDiv, modulo, ceilDiv}
+use Rattle.integers.specs.Divide.{floorDiv, ceilDiv}
 use Rattle.integers.specs.Sum.{sum}
 use Rattle.integers.proofs.Parts.{sub-parts}
 use Rattle.integers.proofs.Divide.{divided}
 use Rattle.integers.proofs.Order.{lt-of-parts, parts-of-lt}
 use Rattle.lists.specs.Tabulate.{tabulate}
 use Rattle.lists.specs.Count.{count}
-use Rattle.lists.proofs.Tabulate.{length-tabulate, getD-tabulate, tabulate-ext, mem-tabulate}
+use Rattle.lists.proofs.Tabulate.{length-tabulate, tabulate-ext, mem-tabulate, entry-known}
 use Rattle.lists.proofs.Count.{count-ext}
 use Rattle.model.specs.Kernel.{tap, kernel, magnitude}
-use Rattle.model.specs.Apportion.{quotient, remainder, lacking, comesBefore, getsUnit, share, apportion}
+use Rattle.model.specs.Apportion.{quotient, remainder, comesBefore, getsUnit, share, apportion}
 use Rattle.model.specs.Tolerance.{scaledGain}
 use Rattle.model.proofs.Apportion.{lacking-by-remainders}
 use Rattle.kernels.specs.Kernel.{offsetOf, numeratorOf, tapOf, kernelOf, remainderOf, before, Limits, Shared}
@@ -78,7 +77,7 @@ count-tabulate p f n = ap (count p) (sym (map-tabulate f (λ j. j) n)) ∙ count
 -- the remainders that the code holds are the model's
 module _ (divisor : ℕ) (offsets values rest : List ℕ) (n : ℕ) (e : take n rest ≡ tabulate (λ i. remainderOf (getD values i 0) divisor) n) where
   rest-at : (i : ℕ) → i < n → getD rest i 0 ≡ remainderOf (getD values i 0) divisor
-  rest-at i h = sym (getD-take n rest i 0 h) ∙ ap (λ (l : List ℕ). getD l i 0) e ∙ getD-tabulate _ n i 0 h
+  rest-at i h = entry-known _ rest n i 0 e h
 
   sum-is : sum (tabulate (λ i. getD rest i 0) n) ≡ sum (map (remainder divisor) (tabulate (tapOf offsets values) n))
   unfolding remainder tapOf tap remainderOf

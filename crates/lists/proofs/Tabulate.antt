@@ -1,13 +1,14 @@
 -- Laws of `tabulate`, and how a loop that stores f i at i, from the front, builds it.
 -- Assumes nothing.
-use mathlib.Core.Path.{_≡_, refl, ap, _∙_}
+use mathlib.Core.Path.{_≡_, refl, sym, ap, _∙_}
 use mathlib.Core.Logic.{⊎-elim}
 use mathlib.Core.List.{List, [], _∷_, _++_, List·Memᴰ, List·Memᴰ·not-nil, List·Memᴰ·cases-cons}
 use Prim.Native.Nat.{ℕ, zero, suc, _+_, _-_, _≤_, _<_}
-use native.Mathlib.Nat.{not-suc-le-zero, le-of-suc-le-suc, zero-lt-suc, zero-add, suc-add}
+use native.Mathlib.Nat.{not-suc-le-zero, le-of-suc-le-suc, zero-lt-suc, zero-add, add-zero, suc-add}
 use native.Mathlib.Numerals.{add-one}
 use native.Mathlib.Omega.{arith}
-use lib.ListN.{length, getD, set, take, drop, length-append, length-drop, replicate}
+use lib.ListN.{length, getD, set, take, drop, length-append, length-drop, replicate, List·getD-append}
+use lib.Seq.{getD-take, getD-drop, getD-append-add, drop-at}
 use Rattle.lists.specs.Tabulate.{tabulate}
 use Rattle.lists.proofs.Part.{tail-mid, drop-past, front-more}
 
@@ -60,6 +61,33 @@ module _ {A : Type 0} where
   -- a part that starts past what was stored is as it was
   pub past-filled : (f : ℕ → A) (k n : ℕ) (d l : List A) → l ≡ tabulate f k ++ drop k d → k ≤ n → take (length l - n) (drop n l) ≡ drop n d
   past-filled f k n d l e h = tail-mid n l ∙ ap (λ (m : List A). drop n m) e ∙ drop-past (tabulate f k) d k n (length-tabulate f k) h
+
+  -- the last entry apart, given by a value
+  pub tabulate-last : (f : ℕ → A) (n : ℕ) (x : A) → x ≡ f n → tabulate f (n + 1) ≡ tabulate f n ++ (x ∷ [])
+  unfolding tabulate
+  tabulate-last f n x e = tabulate-add f n 1 ∙ ap (λ (z : A). tabulate f n ++ (z ∷ [])) (ap f (add-zero n) ∙ sym e)
+
+  -- the entries of a list whose first n are known
+  pub entry-known : (f : ℕ → A) (xs : List A) (n i : ℕ) (d : A) → take n xs ≡ tabulate f n → i < n → getD xs i d ≡ f i
+  entry-known f xs n i d e h = sym (getD-take n xs i d h) ∙ ap (λ (l : List A). getD l i d) e ∙ getD-tabulate f n i d h
+
+  -- a stored front: its entries, the next one, which is as it was, and what lies behind, which is too
+  pub filled-at : (f : ℕ → A) (n : ℕ) (d l : List A) (a : A) (u : ℕ) → l ≡ tabulate f n ++ drop n d → u < n → getD l u a ≡ f u
+  filled-at f n d l a u e b = rw e (List·getD-append (tabulate f n) (drop n d) a u (rw (length-tabulate f n) b) ∙ getD-tabulate f n u a b)
+
+  pub filled-next : (f : ℕ → A) (n : ℕ) (d l : List A) (a : A) → l ≡ tabulate f n ++ drop n d → getD l n a ≡ getD d n a
+  filled-next f n d l a e =
+      rw e (ap (λ (k : ℕ). getD (tabulate f n ++ drop n d) k a) (sym (add-zero n) ∙ ap (λ (k : ℕ). k + 0) (sym (length-tabulate f n)))
+      ∙ getD-append-add (tabulate f n) (drop n d) 0 a ∙ getD-drop n d 0 a ∙ ap (λ (k : ℕ). getD d k a) (add-zero n))
+
+  pub filled-behind : (f : ℕ → A) (n : ℕ) (d l : List A) → l ≡ tabulate f n ++ drop n d → drop n l ≡ drop n d
+  filled-behind f n d l e = rw e (drop-at (tabulate f n) (drop n d) n (length-tabulate f n))
+
+  -- a front that was stored is stored again, each entry from the one before it
+  pub refill : (f g h : ℕ → A) (n : ℕ) (d l m : List A) (a : A) → l ≡ tabulate f n ++ drop n d → m ≡ tabulate h n ++ drop n l
+      → ((u : ℕ) → u < n → getD l u a ≡ f u → h u ≡ g u) → m ≡ tabulate g n ++ drop n d
+  refill f g h n d l m a el em k =
+      em ∙ rw (filled-behind f n d l el) (ap (λ (t : List A). t ++ drop n d) (tabulate-ext h g n (λ u b. k u b (filled-at f n d l a u el b))))
 
   -- n entries more, stored by a function that was lent the part after the first a
   pub fill-part : (f : ℕ → A) (a n : ℕ) (d l part : List A) → l ≡ tabulate f a ++ drop a d → part ≡ tabulate (λ i. f (a + i)) n ++ drop n (take (length l - a) (drop a l))

@@ -69,19 +69,20 @@ unfolding total sumℤ sum tabulate tap
 total-tabulate o g zero = refl
 total-tabulate o g (suc n) = rw (total-tabulate (λ k. o (suc k)) (λ k. g (suc k)) n)
 
-rising-tabulate : (o : ℕ → ℤ) (g : ℕ → ℤ) (n : ℕ) → ((i j : ℕ) → i < j → o i <ℤ o j) → Rising (tabulate (λ k. tap (o k) (g k)) n)
+-- taps whose offsets rise as far as they go
+pub rising-tabulate : (o g : ℕ → ℤ) (n : ℕ) → ((i j : ℕ) → i < j → j < n → o i <ℤ o j) → Rising (tabulate (λ k. tap (o k) (g k)) n)
 unfolding tabulate tap
 rising-tabulate o g zero h = tt
 rising-tabulate o g (suc n) h = (
-  (λ s m. let p = mem-tabulate (λ k. tap (o (suc k)) (g (suc k))) n s m in rw (p .2) (h 0 (suc (p .0)) (omega arith))),
-  rising-tabulate (λ k. o (suc k)) (λ k. g (suc k)) n (λ i j l. h (suc i) (suc j) (omega arith)),
+  (λ s m. let p = mem-tabulate (λ k. tap (o (suc k)) (g (suc k))) n s m in rw (p .2) (h 0 (suc (p .0)) (omega arith) (omega (arith, p .1)))),
+  rising-tabulate (λ k. o (suc k)) (λ k. g (suc k)) n (λ i j l k. h (suc i) (suc j) (omega arith) (omega arith)),
 )
 
 pub binomial-rising : (r : ℕ) → Rising ((binomial r) .taps)
 unfolding binomial kernel
 binomial-rising r =
     rising-tabulate (λ k. pos k -ℤ pos r) (λ k. pos (choose (2 * r) k)) (2 * r + 1)
-    (λ i j h. lt-of-parts _ _ (omega (arith, sub-parts (pos i) (pos r), sub-parts (pos j) (pos r))))
+    (λ i j h _. lt-of-parts _ _ (omega (arith, sub-parts (pos i) (pos r), sub-parts (pos j) (pos r))))
 
 pub binomial-total : (r : ℕ) → total ((binomial r) .taps) ≡ pos ((binomial r) .divisor)
 unfolding binomial kernel choose

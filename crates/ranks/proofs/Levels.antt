@@ -19,7 +19,7 @@ use Rattle.lists.proofs.Count.{Bit, one, none, bit-lt, bit-le, count-mono, coun
 use Rattle.model.specs.Rank.{smallest}
 use Rattle.model.proofs.Rank.{atMost, smallest-by}
 use Rattle.ranks.specs.Histogram.{counted, histogram, total}
-use Rattle.ranks.proofs.Stored.{tabulate-last}
+use Rattle.lists.proofs.Tabulate.{tabulate-last}
 
 -- ---- counts
 

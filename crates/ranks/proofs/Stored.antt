@@ -2,17 +2,12 @@
 use Prim.Native.Nat.{ℕ, suc, _+_, _-_, _≤_, _<_}
 use native.Mathlib.Nat.{add-zero}
 use native.Mathlib.Omega.{arith}
-use mathlib.Core.Path.{_≡_, sym, ap, _∙_}
-use mathlib.Core.List.{List, [], _∷_, _++_, append-nil, append-assoc}
+use mathlib.Core.Path.{_≡_, sym}
+use mathlib.Core.List.{List, _++_, append-nil, append-assoc}
 use lib.ListN.{length, getD, set, take, drop, length-append, take-append-drop, List·getD-append}
 use lib.Seq.{length-take-le, getD-take, drop-cons, set-at, append-snoc}
 use Rattle.lists.specs.Tabulate.{tabulate}
-use Rattle.lists.proofs.Tabulate.{length-tabulate, tabulate-add, tabulate-getD}
-
--- the last entry apart, given by a value
-pub tabulate-last : (f : ℕ → ℕ) (n x : ℕ) → x ≡ f n → tabulate f (n + 1) ≡ tabulate f n ++ x ∷ []
-unfolding tabulate
-tabulate-last f n x e = tabulate-add f n 1 ∙ ap (λ (z : ℕ). tabulate f n ++ z ∷ []) (ap f (add-zero n) ∙ sym e)
+use Rattle.lists.proofs.Tabulate.{length-tabulate, tabulate-last, tabulate-getD}
 
 -- d with f 0, .., f (n - 1) from place `at` on
 unfoldable pub stored : (ℕ → ℕ) → List ℕ → ℕ → ℕ → List ℕ

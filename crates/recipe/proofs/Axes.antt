@@ -13,13 +13,12 @@ use lib.Signed.{leZ, _<ℤ_}
 use borrow.Author.Tests.{leb-true}
 use Rattle.integers.proofs.Parts.{posPart, negPart, add-parts}
 use Rattle.integers.proofs.Order.{lt-of-parts}
-use Rattle.lists.specs.Tabulate.{tabulate}
-use Rattle.lists.proofs.Tabulate.{mem-tabulate}
 use Rattle.refusals.specs.Refusal.{verdict}
 use Rattle.refusals.specs.declared.Verdict.the-variants.{Passed}
 use Rattle.refusals.proofs.Passed.{AllPass, all-pass, all-append, passed-all}
 use Rattle.weights.specs.Bits.{accepted}
-use Rattle.model.specs.Kernel.{Kernel, Rising, tap, kernel}
+use Rattle.model.proofs.Binomial.{rising-tabulate}
+use Rattle.model.specs.Kernel.{Kernel, Rising, kernel}
 use Rattle.recipe.specs.Bytes.{at, word, signed8, bits, there}
 use Rattle.recipe.specs.Weighted.{isCount, sizesLength, divisorAt, sizeTests, tapTests, offsetTests, axisTests, realTests, weightTests, weightLength, numeratorAt, kernelAt, across, down, weightedLength}
 use Rattle.recipe.specs.Held.{Tested, Holds, Kept}
@@ -145,14 +144,6 @@ weights-passed true n b h = let r = reals n b h in (r .0, λ t. r .1)
 weights-passed false n b h = (leb-true (2 * n) (length b) (h .0), λ t. absurd t)
 
 -- ---- kernels
-
-rising-tabulate : (o g : ℕ → ℤ) (n : ℕ) → ((i j : ℕ) → i < j → j < n → o i <ℤ o j) → Rising (tabulate (λ k. tap (o k) (g k)) n)
-unfolding tabulate tap
-rising-tabulate o g zero h = tt
-rising-tabulate o g (suc n) h = (
-  (λ s m. let p = mem-tabulate (λ k. tap (o (suc k)) (g (suc k))) n s m in rw (p .2) (h 0 (suc (p .0)) (omega arith) (omega (arith, p .1)))),
-  rising-tabulate (λ k. o (suc k)) (λ k. g (suc k)) n (λ i j l k. h (suc i) (suc j) (omega arith) (omega arith)),
-)
 
 pub kernel-rising : (real : Bool) (D : ℕ) (b : List ℕ) (n o w : ℕ)
     → ((i j : ℕ) → i < j → j < n → signed8 (at b (o + i)) <ℤ signed8 (at b (o + j)))

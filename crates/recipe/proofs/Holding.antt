@@ -1,11 +1,10 @@
 -- Offsets and numerators that are held stand for those of the bytes. Assumes nothing.
 use Prim.Native.Nat.{ℕ, _+_, _-_, _*_, _%_, _≤_, _<_}
 use native.Mathlib.Omega.{arith}
-use mathlib.Core.Path.{_≡_, refl, sym, ap, _∙_}
+use mathlib.Core.Path.{_≡_, refl, ap}
 use mathlib.Core.Bool.{Bool, true, false, not, cond}
 use mathlib.Core.List.{List}
 use lib.ListN.{length, getD, take}
-use lib.Seq.{getD-take}
 use lib.Dec.{T, ltb, ltb→lt, nltb→le}
 use lib.IntN.{ℤ, pos, negsuc, natAbs, _+ℤ_, _-ℤ_}
 use Rattle.weights.specs.Bits.{accepted}
@@ -13,7 +12,7 @@ use lib.Signed.{nonNeg}
 use Rattle.integers.proofs.Parts.{negPart, parts-ext, abs-parts, add-parts, sub-parts}
 use Rattle.integers.proofs.Machine.{biased-nat}
 use Rattle.lists.specs.Tabulate.{tabulate}
-use Rattle.lists.proofs.Tabulate.{getD-tabulate, tabulate-ext}
+use Rattle.lists.proofs.Tabulate.{entry-known, tabulate-ext}
 use Rattle.weights.proofs.Laws.{numerator-small}
 use Rattle.model.specs.Kernel.{tap, kernel}
 use Rattle.kernels.specs.Kernel.{offsetOf, numeratorOf, tapOf, kernelOf}
@@ -50,10 +49,6 @@ module _ (a : ℤ) (h : natAbs a ≤ 137438953472) where
   unfolding heldNumerator
   held-small = omega (arith, abs-parts a, abs-parts (a +ℤ pos 274877906944), add-parts a (pos 274877906944))
 
--- the entries of an array whose first n are known
-entry : (xs : List ℕ) (f : ℕ → ℕ) (n i : ℕ) → i < n → take n xs ≡ tabulate f n → getD xs i 0 ≡ f i
-entry xs f n i h e = sym (getD-take n xs i 0 h) ∙ ap (λ l. getD l i 0) e ∙ getD-tabulate f n i 0 h
-
 module _ (real : Bool) (D : ℕ) (b : List ℕ) (n o w : ℕ) (bytes : (i : ℕ) → at b i < 256) (t : Tested real b n o w) where
   numerator-within : (i : ℕ) → i < n → natAbs (numeratorAt real b (w + weightLength real * i)) ≤ 137438953472
   unfolding numeratorAt word
@@ -69,12 +64,12 @@ module _ (real : Bool) (D : ℕ) (b : List ℕ) (n o w : ℕ) (bytes : (i : ℕ)
   unfolding kernelOf kernelAt tapOf
   holds offsets values a e c f =
       let same : (i : ℕ) → i < n → tap (offsetOf (getD offsets i 0)) (numeratorOf (getD values i 0)) ≡ tap (signed8 (at b (o + i))) (numeratorAt real b (w + weightLength real * i)) =
-      (λ i h. rw (entry offsets _ n i h e, entry values _ n i h f, offset-back (at b (o + i)) (bytes (o + i)) (t .offsets-right i h .0), numerator-back _ (numerator-within i h)))
+      (λ i h. rw (entry-known _ offsets n i 0 e h, entry-known _ values n i 0 f h, offset-back (at b (o + i)) (bytes (o + i)) (t .offsets-right i h .0), numerator-back _ (numerator-within i h)))
       in
       record {
         is = ap (kernel D) (tabulate-ext _ _ n same);
         offsets-fit = a;
-        offsets-near = λ i h. rw (entry offsets _ n i h e) (offset-near _ (t .offsets-right i h .1));
+        offsets-near = λ i h. rw (entry-known _ offsets n i 0 e h) (offset-near _ (t .offsets-right i h .1));
         values-fit = c;
-        values-small = λ i h. rw (entry values _ n i h f) (held-small _ (numerator-within i h));
+        values-small = λ i h. rw (entry-known _ values n i 0 f h) (held-small _ (numerator-within i h));
       }

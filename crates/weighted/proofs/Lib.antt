@@ -1,4 +1,3 @@
-pub mod Registers
 pub mod Sums
 pub mod Turns
 pub mod Reaching

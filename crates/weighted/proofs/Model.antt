@@ -13,7 +13,7 @@ use Rattle.integers.specs.Sum.{sum}
 use Rattle.integers.proofs.Parts.{parts-ext, add-parts, abs-parts}
 use Rattle.integers.proofs.Divide.{Floor, floor-law}
 use Rattle.lists.specs.Tabulate.{tabulate, raster}
-use Rattle.lists.proofs.Tabulate.{tabulate-getD}
+use Rattle.lists.proofs.Tabulate.{tabulate-getD, tabulate-last}
 use Rattle.lists.proofs.Pairs.{pairs-at, pairs-raster}
 use Rattle.lists.proofs.Raster.{getD-raster}
 use Rattle.model.specs.Border.{Border}
@@ -28,7 +28,8 @@ use Rattle.recipe.specs.Stands.{Ready}
 use Rattle.frame.specs.Padded.{padded}
 use Rattle.frame.proofs.Supplied.{around-padded}
 use Rattle.weighted.specs.Held.{heldSum, heldSize, heldRow, Light, Reaches, rowOf, levelOf}
-use Rattle.weighted.proofs.Sums.{held-size, held-ext, abs-add}
+use Rattle.integers.proofs.Parts.{abs-add}
+use Rattle.weighted.proofs.Sums.{held-size, held-ext}
 
 -- ---- a sum by held taps, as one by a list of taps
 
@@ -48,11 +49,6 @@ last-tap (s ∷ ts) t f =
       add-parts (s .weight *ℤ f (s .offset) +ℤ weightedSum ts f) (t .weight *ℤ f (t .offset)),
     )))
 
-tabulate-last : {A : Type 0} (f : ℕ → A) (n : ℕ) → tabulate f (suc n) ≡ tabulate f n ++ (f n ∷ [])
-unfolding tabulate
-tabulate-last f zero = refl
-tabulate-last f (suc n) = ap (λ (l : List _). f 0 ∷ l) (tabulate-last (λ i. f (suc i)) n)
-
 no-taps : (h : ℕ → Tap) (f : ℤ → ℤ) → weightedSum (tabulate h 0) f ≡ pos 0
 unfolding tabulate weightedSum
 no-taps h f = refl
@@ -63,7 +59,7 @@ held-list offsets weights f zero = sym (no-taps (heldTap offsets weights) f)
 held-list offsets weights f (suc n) =
     let h = heldTap offsets weights in
     ap (λ (z : ℤ). z +ℤ getD weights n (pos 0) *ℤ f (offsetOf (getD offsets n 0))) (held-list offsets weights f n)
-    ∙ sym (last-tap (tabulate h n) (h n) f) ∙ ap (λ (ts : List Tap). weightedSum ts f) (sym (tabulate-last h n))
+    ∙ sym (last-tap (tabulate h n) (h n) f) ∙ ap (λ (ts : List Tap). weightedSum ts f) (sym (rw add-one at (tabulate-last h n (h n) refl)))
 
 -- taps with the same offsets and the same weights
 tap-same : (s t : Tap) → s .offset ≡ t .offset → s .weight ≡ t .weight → s ≡ t

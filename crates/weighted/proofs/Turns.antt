@@ -14,7 +14,9 @@ use Rattle.lists.proofs.Part.{tail-mid}
 use Rattle.lists.proofs.Tabulate.{tabulate-ext}
 use Rattle.lists.proofs.Raster.{row-fits}
 use Rattle.weighted.specs.Held.{heldSum, heldSize, heldRow, Light, rowOf, levelOf}
-use Rattle.weighted.proofs.Sums.{stored, held-ext, refill, held-size, size-mono, half-last, abs-add}
+use Rattle.lists.proofs.Tabulate.{filled-at, refill}
+use Rattle.integers.proofs.Parts.{abs-add}
+use Rattle.weighted.proofs.Sums.{held-ext, held-size, size-mono, half-last}
 
 module _ (offsets : List ℕ) (weights : List ℤ) (g : ℕ → ℕ → ℤ) (half : ℤ) where
   -- the sum of the first k taps for column u, where g u o stands at held offset o, and the half
@@ -48,7 +50,7 @@ pub row-supplied : (offsets : List ℕ) (weights : List ℤ) (n w y : ℕ) (p : 
     → tabulate (λ u. rowOf (heldSum offsets weights n (λ o. pos (getD row (u + o) 0)))) w ≡ tabulate (λ u. heldRow offsets weights n p u y) w
 unfolding heldRow
 row-supplied offsets weights n w y p d row l e =
-    tabulate-ext _ _ w (λ u b. ap rowOf (held-ext offsets weights _ _ n (λ i k. ap pos (stored _ (w + 30) d row 0 (u + getD offsets i 0) e (omega (arith, b, l .near i k))))))
+    tabulate-ext _ _ w (λ u b. ap rowOf (held-ext offsets weights _ _ n (λ i k. ap pos (filled-at _ (w + 30) d row 0 (u + getD offsets i 0) e (omega (arith, b, l .near i k))))))
 
 -- the last row that a tap reaches is there
 pub column-fits : (v h o first last w : ℕ) → v < h → o ≤ last → v * w + ((o - first) * w + w) ≤ (h + (last - first)) * w
@@ -68,7 +70,7 @@ module _ (offsets : List ℕ) (weights : List ℤ) (n w first : ℕ) (rows : Lis
       → tabulate (λ u. clamp 255 (floorDiv (getD sums u (pos 0)) (2 ^ 22))) w ≡ tabulate (λ u. levelAt u v) w
   unfolding levelAt levelOf
   level-row v at d sums e es =
-      tabulate-ext _ _ w (λ u b. ap (λ (z : ℤ). clamp 255 (floorDiv z 4194304)) (stored _ w d sums (pos 0) u es b ∙ ap (λ (z : ℤ). z +ℤ pos 2097152)
+      tabulate-ext _ _ w (λ u b. ap (λ (z : ℤ). clamp 255 (floorDiv z 4194304)) (filled-at _ w d sums (pos 0) u es b ∙ ap (λ (z : ℤ). z +ℤ pos 2097152)
       (held-ext offsets weights _ _ n (λ i k. rw (tail-mid at rows) (getD-drop at rows _ (pos 0) ∙ ap (λ (j : ℕ). getD rows j (pos 0)) (same (getD offsets i 0) u))))))
     where
       same : (o u : ℕ) → at + ((o - first) * w + u) ≡ (v + (o - first)) * w + u

@@ -1,9 +1,8 @@
 -- The bounds, by computing. Assumes nothing.
 use mathlib.Core.Path.{_≡_, refl}
-use Prim.Native.Nat.{ℕ, _^_}
-use mathlib.Core.Bool.{Bool, true, false}
+use Prim.Native.Nat.{ℕ}
+use mathlib.Core.Bool.{true, false}
 use lib.IntN.{ℤ, pos, negℤ}
-use lib.Ieee.{fin, binary32, ofBits, mul, whole, inSigned}
 use Rattle.weights.specs.Bits.{pattern, accepted, numeratorBits}
 
 abbrev Takes : ℕ → ℤ → Type 0

@@ -2,22 +2,22 @@
 use mathlib.Core.Path.{_≡_, refl, sym, ap, _∙_, subst}
 use mathlib.Core.Logic.{_⊎_, inl, inr}
 use Prim.Native.Nat.{ℕ, zero, suc, _+_, _-_, _*_, _/_, _%_, _^_, _≤_, _<_}
-use native.Mathlib.Nat.{add-zero, eq-zero-or-pos, zero-mul, mul-one, one-mul, mul-comm, mul-assoc, lt-of-le-of-lt, lt-of-lt-of-le, lt-of-not-le, le-of-eq, le-trans, not-le-of-lt, mul-le-mul-right, le-of-mul-le-mul-right, mul-div-cancel, mul-lt-mul-of-pos-right, mod-lt, lt-irrefl}
+use native.Mathlib.Nat.{add-zero, eq-zero-or-pos, mul-one, mul-assoc, lt-of-le-of-lt, lt-of-lt-of-le, lt-of-not-le, le-of-eq, le-trans, not-le-of-lt, mul-le-mul-right, le-of-mul-le-mul-right, mul-div-cancel, mod-lt}
 use native.Mathlib.Omega.{arith}
 use native.Mathlib.Decide.{decLe}
 use mathlib.Core.Bool.{Bool, true, false, not, _&&_, _||_, Bool·beq, cond}
-use lib.IntN.{ℤ, pos, negsuc, negℤ, natAbs}
-use lib.Dec.{T, ltb, leb, eqb, lit<, lit≤, T-not, not-T, eqb→eq, leb→le, eqb·suc-zero}
-use lib.Pow.{pow-add, pow-pos, pow-mono, shl-lt}
-use lib.Ieee.{Float, nan, inf, fin, Format, binary32, binary64, prec, emax, low, below, level, lt, eq, le, neg, mul, inSigned, isNan, fits, ofFields, ofBits, toBits, toSigned}
-use lib.Ieee.Fits.{and-l, and-r, and-i, eq→eqb}
-use lib.Ieee.Bits.{is-true, is-false, cond-no, ofBits-toBits, ofBits-fits, toBits-ofBits}
+use lib.IntN.{pos, negℤ, natAbs}
+use lib.Dec.{T, ltb, leb, eqb, lit<, lit≤, eqb→eq, leb→le, eqb·suc-zero}
+use lib.Pow.{pow-add, pow-mono, shl-lt}
+use lib.Ieee.{Float, nan, inf, fin, Format, binary32, binary64, prec, emax, low, below, level, eq, le, neg, mul, inSigned, isNan, ofFields, ofBits, toBits, toSigned}
+use lib.Ieee.Fits.{and-l, and-r}
+use lib.Ieee.Bits.{cond-no, toBits-ofBits}
 use lib.Ieee.Exact.{HasValue, odd-sign}
-use borrow.Author.Tests.{ltb-true, ltb-false, leb-true, leb-false, eqb-true, eqb-false, lt-ltb, le-ltb, le-leb, lt-leb, eq-eqb, ne-eqb}
+use borrow.Author.Tests.{ltb-true, ltb-false, eqb-true, eqb-false, le-leb, lt-leb, eq-eqb, ne-eqb}
 use Rattle.weights.specs.Bits.{negative, exponent, fraction, units, accepted, numeratorBits}
 use Rattle.weights.specs.Weight.{inRange, usable, numeratorOf}
-use Rattle.weights.specs.declared.Weight.the-variants.{Whole, Real}
-use Rattle.weights.proofs.Value.{lt-values, eq-values, le-values, rescale, scaled, cast-whole, as-whole}
+use Rattle.weights.specs.declared.Weight.the-variants.{Real}
+use Rattle.weights.proofs.Value.{eq-values, le-values, rescale, scaled, cast-whole, as-whole}
 
 -- ---- the value of a pattern that is neither an infinity's nor a NaN's
 fields-value : (s : Bool) (x t : ℕ) → T (not (eqb x 255)) → HasValue (ofFields binary32 s x t) s (cond (eqb x 0) t ((2 ^ 23 + t) * 2 ^ (x - 1))) (2 ^ 149)

@@ -12,7 +12,7 @@ use denote.Ref.{now}
 use lib.IntN.{ℤ, pos, _+ℤ_, _*ℤ_}
 use Rattle.lists.specs.Tabulate.{tabulate}
 use Rattle.lists.proofs.Tabulate.{fill-none, fill-more}
-use Rattle.weighted.proofs.Sums.{unreached}
+use Rattle.lists.proofs.Tabulate.{filled-next}
 use borrow.Author.Needs.{needs}
 use Rattle.weighted.proofs.columns.add_tap.Statement.{statement}
 use Rattle.weighted.proofs.columns.add_tap.Tie as tie
@@ -46,7 +46,7 @@ plus-requires c κs =
     let t = c .before .before .loop-test .taken in
     let read : toZ w64 (ofZ w64 (getD (L .sums) (L .u) (pos 0))) ≡ getD (L .sums) (L .u) (pos 0) = search needs in
     let row : toZ w32 (ofZ w32 (getD R (L .u) (pos 0))) ≡ getD R (L .u) (pos 0) = search needs in
-    (rw (read, unreached _ (L .u) _ (L .sums) (pos 0) (L .inv .1)) (c .before .before .before .before .pre .3 (L .u) t), rw (toZ-ofZ (c .before .before .before .before .fits .weight)) (c .before .before .before .before .pre .2), rw row (c .before .before .before .before .pre .4 (L .u) t))
+    (rw (read, filled-next _ (L .u) _ (L .sums) (pos 0) (L .inv .1)) (c .before .before .before .before .pre .3 (L .u) t), rw (toZ-ofZ (c .before .before .before .before .fits .weight)) (c .before .before .before .before .pre .2), rw row (c .before .before .before .before .pre .4 (L .u) t))
 
 mul-t14 : tie.Need-mul-t14 Inv-loop μ-loop
 mul-t14 c = search needs
@@ -67,7 +67,7 @@ loop-again c =
     let out : toZ w64 (ofZ w64 (c .plus .result)) ≡ c .plus .result = search needs in
     let read : toZ w64 (ofZ w64 (getD (L .sums) (L .u) (pos 0))) ≡ getD (L .sums) (L .u) (pos 0) = search needs in
     let row : toZ w32 (ofZ w32 (getD R (L .u) (pos 0))) ≡ getD R (L .u) (pos 0) = search needs in
-    (omega arith, fill-more _ _ _ _ _ (omega arith) (L .inv .1) (out ∙ c .plus .ensures ∙ rw (read, row, unreached _ (L .u) _ (L .sums) (pos 0) (L .inv .1))), simp length-set (L .inv .2))
+    (omega arith, fill-more _ _ _ _ _ (omega arith) (L .inv .1) (out ∙ c .plus .ensures ∙ rw (read, row, filled-next _ (L .u) _ (L .sums) (pos 0) (L .inv .1))), simp length-set (L .inv .2))
 
 same-length : tie.Need-same-length Inv-loop μ-loop
 same-length c = search needs

@@ -13,7 +13,8 @@ use Rattle.lists.specs.Tabulate.{tabulate}
 use Rattle.lists.proofs.Part.{tail-mid}
 use Rattle.lists.proofs.Tabulate.{length-filled}
 use Rattle.weighted.specs.Held.{heldSum}
-use Rattle.weighted.proofs.Sums.{behind, stored, weight-size}
+use Rattle.lists.proofs.Tabulate.{filled-behind, filled-at}
+use Rattle.weighted.proofs.Sums.{weight-size}
 use Rattle.weighted.proofs.Turns.{partial, partial-more, partial-size, shifted}
 use borrow.Author.Needs.{needs}
 use Rattle.weighted.proofs.columns.column_sums.Statement.{statement}
@@ -42,7 +43,7 @@ loop-holds : tie.Need-loop-holds Inv-loop μ-loop
 unfolding partial heldSum
 loop-holds c =
     let e = c .before .start .ensures in
-    (omega arith, e ∙ rw (behind _ _ _ _ e), refl)
+    (omega arith, e ∙ rw (filled-behind _ _ _ _ e), refl)
 
 array-read-at : tie.Need-array-read-at Inv-loop μ-loop
 array-read-at c = search needs
@@ -85,7 +86,7 @@ add-tap-requires c κs =
       omega (arith, L .inv .2, p .1),
       rw (tail-mid at (now (a .rows)), length-drop) (omega (arith, p .3 (L .k) t .1)),
       rw weight (omega (arith, weight-size (a .axis .weights) (L .k) (a .axis .len) t, p .2 .size)),
-      λ u b. rw (stored _ (a .w) _ (L .sums) (pos 0) u (L .inv .1) b)
+      λ u b. rw (filled-at _ (a .w) _ (L .sums) (pos 0) u (L .inv .1) b)
           (omega (arith, partial-size (a .axis .offsets) (a .axis .weights) (at-offset (now (a .rows)) (a .w) (a .first)) (pos 2097152) 65536 (λ v o. p .4 _) (L .k) (a .axis .len) (L .inv .0) (p .2 .size) u)),
       λ u b. rw (shifted (now (a .rows)) at u (pos 0)) (p .4 _),
     )
@@ -118,7 +119,7 @@ returns c =
     let a = c .before .before .before .before .before .before .before .args in
     let L = c .before .loop in
     let k = le-antisymm (L .inv .0) (c .loop-test .left) in
-    rw (behind _ (a .w) _ _ (c .before .before .before .start .ensures)) at (rw k at (L .inv .1))
+    rw (filled-behind _ (a .w) _ _ (c .before .before .before .start .ensures)) at (rw k at (L .inv .1))
 
 pub column-sums-spec : {M : Type 1} → statement M
 column-sums-spec =

@@ -8,7 +8,7 @@ use mir.Syntax.{w8, w64}
 use mir.Val.{ofZ, toZ}
 use Rattle.integers.specs.Divide.{clamp}
 use Rattle.integers.proofs.Parts.{posPart, negPart}
-use Rattle.weighted.proofs.Registers.{Bits, of-bits, nat-bits, shr-bits, lt-true, lt-false, nat-cast-fits, nat-cast-is}
+use Rattle.integers.proofs.Registers.{Bits, of-bits, nat-bits, shr-bits, lt-true, lt-false, nat-cast-fits, nat-cast-is}
 use Rattle.weighted.proofs.columns.level.Statement.{statement}
 use Rattle.weighted.proofs.columns.level.Tie as tie
 

@@ -6,8 +6,8 @@ use lib.IntN.{ℤ, natAbs, _+ℤ_, _*ℤ_}
 use mir.Syntax.{w32, w64}
 use mir.Val.{SFits, ofZ, toZ}
 use Rattle.integers.proofs.Machine.{abs-fits}
-use Rattle.weighted.proofs.Registers.{Bits, of-bits, widen-bits, widen-fits, add-fits, add-bits, mul-fits, mul-bits}
-use Rattle.weighted.proofs.Sums.{abs-add, abs-mul}
+use Rattle.integers.proofs.Registers.{Bits, of-bits, widen-bits, widen-fits, add-fits, add-bits, mul-fits, mul-bits}
+use Rattle.integers.proofs.Parts.{abs-add, abs-mul}
 use Rattle.weighted.proofs.columns.plus.Statement.{statement}
 use Rattle.weighted.proofs.columns.plus.Tie as tie
 

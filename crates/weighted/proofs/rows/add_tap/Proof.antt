@@ -11,7 +11,7 @@ use mir.Facts.{toZ-ofZ}
 use lib.IntN.{ℤ, pos, _+ℤ_, _*ℤ_}
 use Rattle.lists.specs.Tabulate.{tabulate}
 use Rattle.lists.proofs.Tabulate.{fill-none, fill-more}
-use Rattle.weighted.proofs.Sums.{unreached}
+use Rattle.lists.proofs.Tabulate.{filled-next}
 use borrow.Author.Needs.{needs}
 use Rattle.weighted.proofs.rows.add_tap.Statement.{statement}
 use Rattle.weighted.proofs.rows.add_tap.Tie as tie
@@ -39,7 +39,7 @@ plus-requires : tie.Need-plus-requires Inv-loop μ-loop
 plus-requires c κs =
     let L = c .before .before .before .loop in
     let read : toZ w32 (ofZ w32 (getD (L .sums) (L .u) (pos 0))) ≡ getD (L .sums) (L .u) (pos 0) = search needs in
-    (rw (read, unreached _ (L .u) _ (L .sums) (pos 0) (L .inv .1)) (c .before .before .before .before .before .pre .3 (L .u) (c .before .before .loop-test .taken)), rw (toZ-ofZ (c .before .before .before .before .before .fits .weight)) (c .before .before .before .before .before .pre .2))
+    (rw (read, filled-next _ (L .u) _ (L .sums) (pos 0) (L .inv .1)) (c .before .before .before .before .before .pre .3 (L .u) (c .before .before .loop-test .taken)), rw (toZ-ofZ (c .before .before .before .before .before .fits .weight)) (c .before .before .before .before .before .pre .2))
 
 mul-t13 : tie.Need-mul-t13 Inv-loop μ-loop
 mul-t13 c = search needs
@@ -58,7 +58,7 @@ loop-again c =
     let L = c .before .before .before .before .loop in
     let out : toZ w32 (ofZ w32 (c .plus .result)) ≡ c .plus .result = search needs in
     let read : toZ w32 (ofZ w32 (getD (L .sums) (L .u) (pos 0))) ≡ getD (L .sums) (L .u) (pos 0) = search needs in
-    (omega arith, fill-more _ _ _ _ _ (omega arith) (L .inv .1) (out ∙ c .plus .ensures ∙ rw (read, unreached _ (L .u) _ (L .sums) (pos 0) (L .inv .1))), simp length-set (L .inv .2))
+    (omega arith, fill-more _ _ _ _ _ (omega arith) (L .inv .1) (out ∙ c .plus .ensures ∙ rw (read, filled-next _ (L .u) _ (L .sums) (pos 0) (L .inv .1))), simp length-set (L .inv .2))
 
 same-length : tie.Need-same-length Inv-loop μ-loop
 same-length c = search needs

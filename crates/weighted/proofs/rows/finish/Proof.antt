@@ -11,7 +11,7 @@ use lib.IntN.{pos}
 use Rattle.integers.specs.Divide.{floorDiv}
 use Rattle.lists.specs.Tabulate.{tabulate}
 use Rattle.lists.proofs.Tabulate.{fill-none, fill-more}
-use Rattle.weighted.proofs.Sums.{unreached}
+use Rattle.lists.proofs.Tabulate.{filled-next}
 use borrow.Author.Needs.{needs}
 use Rattle.weighted.proofs.rows.finish.Statement.{statement}
 use Rattle.weighted.proofs.rows.finish.Tie as tie
@@ -52,7 +52,7 @@ loop-again c =
     let L = c .before .before .before .loop in
     let out : toZ w32 (ofZ w32 (c .in-64ths .result)) ≡ c .in-64ths .result = search needs in
     let read : toZ w32 (ofZ w32 (getD (L .sums) (L .u) (pos 0))) ≡ getD (L .sums) (L .u) (pos 0) = search needs in
-    (omega arith, fill-more _ _ _ _ _ (omega arith) (L .inv .1) (out ∙ c .in-64ths .ensures ∙ rw (read, unreached _ (L .u) _ (L .sums) (pos 0) (L .inv .1))), simp length-set (L .inv .2))
+    (omega arith, fill-more _ _ _ _ _ (omega arith) (L .inv .1) (out ∙ c .in-64ths .ensures ∙ rw (read, filled-next _ (L .u) _ (L .sums) (pos 0) (L .inv .1))), simp length-set (L .inv .2))
 
 same-length : tie.Need-same-length Inv-loop μ-loop
 same-length c = search needs

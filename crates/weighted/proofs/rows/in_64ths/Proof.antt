@@ -1,5 +1,5 @@
 -- `weighted::rows::in_64ths` meets its contract: a shift rounds down. Assumes nothing.
-use Rattle.weighted.proofs.Registers.{of-bits, shr-bits}
+use Rattle.integers.proofs.Registers.{of-bits, shr-bits}
 use Rattle.weighted.proofs.rows.in_64ths.Statement.{statement}
 use Rattle.weighted.proofs.rows.in_64ths.Tie as tie
 

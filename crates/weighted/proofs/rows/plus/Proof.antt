@@ -6,8 +6,8 @@ use lib.IntN.{ℤ, pos, natAbs, _+ℤ_, _*ℤ_}
 use mir.Syntax.{w32}
 use mir.Val.{SFits, ofZ}
 use Rattle.integers.proofs.Machine.{abs-fits}
-use Rattle.weighted.proofs.Registers.{Bits, of-bits, nat-bits, add-fits, add-bits, mul-fits, mul-bits}
-use Rattle.weighted.proofs.Sums.{abs-add, abs-mul}
+use Rattle.integers.proofs.Registers.{Bits, of-bits, nat-bits, add-fits, add-bits, mul-fits, mul-bits}
+use Rattle.integers.proofs.Parts.{abs-add, abs-mul}
 use borrow.Author.Needs.{needs}
 use Rattle.weighted.proofs.rows.plus.Statement.{statement}
 use Rattle.weighted.proofs.rows.plus.Tie as tie

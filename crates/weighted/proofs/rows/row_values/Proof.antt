@@ -13,7 +13,8 @@ use Rattle.lists.specs.Tabulate.{tabulate}
 use Rattle.lists.proofs.Part.{tail-mid}
 use Rattle.lists.proofs.Tabulate.{length-filled}
 use Rattle.weighted.specs.Held.{heldSum, rowOf}
-use Rattle.weighted.proofs.Sums.{behind, stored, refill, weight-size}
+use Rattle.lists.proofs.Tabulate.{filled-behind, filled-at, refill}
+use Rattle.weighted.proofs.Sums.{weight-size}
 use Rattle.weighted.proofs.Turns.{partial, partial-more, partial-size, shifted}
 use borrow.Author.Needs.{needs}
 use Rattle.weighted.proofs.rows.row_values.Statement.{statement}
@@ -39,7 +40,7 @@ loop-holds : tie.Need-loop-holds Inv-loop μ-loop
 unfolding partial heldSum
 loop-holds c =
     let e = c .before .start .ensures in
-    (omega arith, e ∙ rw (behind _ _ _ _ e), refl)
+    (omega arith, e ∙ rw (filled-behind _ _ _ _ e), refl)
 
 array-read-at : tie.Need-array-read-at Inv-loop μ-loop
 array-read-at c = search needs
@@ -74,7 +75,7 @@ add-tap-requires c κs =
       omega (arith, L .inv .2, p .2),
       rw (tail-mid at (now (a .row)), length-drop) (omega (arith, p .1, near)),
       rw weight (omega (arith, weight-size (a .axis .weights) (L .k) (a .axis .len) t, p .3 .size)),
-      λ u b. rw (stored _ (a .n) _ (L .sums) (pos 0) u (L .inv .1) b)
+      λ u b. rw (filled-at _ (a .n) _ (L .sums) (pos 0) u (L .inv .1) b)
           (omega (arith, partial-size (a .axis .offsets) (a .axis .weights) (at-offset (now (a .row))) (pos 512) 255 (λ v o. omega (arith, c .before .before .before .before .before .before .before .before .before .before .shared-slice-known .given (v + o) .fits)) (L .k) (a .axis .len) (L .inv .0) (p .3 .size) u)),
     )
 
@@ -107,7 +108,7 @@ returns c =
     let a = c .before .before .before .before .before .before .before .before .before .before .before .args in
     let L = c .before .before .before .before .loop in
     let k = le-antisymm (L .inv .0) (c .before .before .before .loop-test .left) in
-    let el = rw (behind _ (a .n) _ _ (c .before .before .before .before .before .before .start .ensures)) at (rw k at (L .inv .1)) in
+    let el = rw (filled-behind _ (a .n) _ _ (c .before .before .before .before .before .before .start .ensures)) at (rw k at (L .inv .1)) in
     refill (partial (a .axis .offsets) (a .axis .weights) (at-offset (now (a .row))) (pos 512) (a .axis .len)) _ _ (a .n) (now (a .sums)) (L .sums) _ (pos 0) el (c .before .finish .ensures) (λ u b e. rw e)
 
 pub row-values-spec : {M : Type 1} → statement M
