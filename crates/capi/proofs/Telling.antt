@@ -1,0 +1,29 @@
+-- What is told of an answer is told of the answer as defined.
+use Prim.Native.Nat.{ℕ}
+use mathlib.Core.Path.{_≡_, subst}
+use mathlib.Core.List.{List}
+use lib.IntN.{ℤ}
+use Rattle.netpbm.specs.declared.write.Written.{Written}
+use Rattle.netpbm.specs.Write.{Writes}
+use Rattle.filter.specs.declared.plane.Filtered.{Filtered}
+use Rattle.filter.specs.declared.file.File.{File}
+use Rattle.filter.specs.Plane as Plane
+use Rattle.filter.specs.File as File
+use Rattle.capi.specs.Numbers.{Told, Tells, writtenTold, planeTold, fileTold}
+use Rattle.capi.specs.Calls.{WritesStill, FiltersPlane, FiltersFile}
+
+-- equal answers are told alike
+pub told : {A : Type 0} (tell : A → Told) {a b : A} {xs ys : List ℕ} {r : ℕ} → a ≡ b → Tells (tell a) xs ys r → Tells (tell b) xs ys r
+told tell {a} {b} {xs} {ys} {r} e t = subst (λ (x : _). Tells (tell x) xs ys r) e t
+
+-- a still written and its answer told
+pub writes : {W H c : ℕ} {raster out out′ xs ys : List ℕ} {r : ℕ} {a : Written} → Writes W H c raster out a out′ → Tells (writtenTold a) xs ys r → WritesStill W H c raster out out′ xs ys r
+writes {W} {H} {c} {raster} {out} {out′} w t = record { wrote = subst (λ (x : Written). Writes W H c raster out x out′) (w .answered) w; told = told writtenTold (w .answered) t }
+
+-- a plane filtered and its answer told
+pub filters-plane : {recipe : List ℕ} {W H : ℕ} {plane work work′ : List ℕ} {rows rows′ : List ℤ} {sums sums′ out out′ xs ys : List ℕ} {r : ℕ} {a : Filtered} → Plane.FiltersPlane recipe W H plane work work′ rows rows′ sums sums′ out out′ a → Tells (planeTold a) xs ys r → FiltersPlane recipe W H plane work work′ rows rows′ sums sums′ out out′ xs ys r
+filters-plane {recipe} {W} {H} {plane} {work} {work′} {rows} {rows′} {sums} {sums′} {out} {out′} f t = record { filtered = subst (λ (x : Filtered). Plane.FiltersPlane recipe W H plane work work′ rows rows′ sums sums′ out out′ x) (f .answered) f; told = told planeTold (f .answered) t }
+
+-- a file filtered and its answer told
+pub filters-file : {recipe still work work′ : List ℕ} {rows rows′ : List ℤ} {sums sums′ out out′ xs ys : List ℕ} {r : ℕ} {a : File} → File.FiltersFile recipe still work work′ rows rows′ sums sums′ out out′ a → Tells (fileTold a) xs ys r → FiltersFile recipe still work work′ rows rows′ sums sums′ out out′ xs ys r
+filters-file {recipe} {still} {work} {work′} {rows} {rows′} {sums} {sums′} {out} {out′} f t = record { filtered = subst (λ (x : File). File.FiltersFile recipe still work work′ rows rows′ sums sums′ out out′ x) (f .answered) f; told = told fileTold (f .answered) t }

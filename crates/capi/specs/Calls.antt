@@ -1,0 +1,25 @@
+-- What the calls with a lent output ensure: the call beneath, and its answer told.
+use Prim.Native.Nat.{ℕ}
+use mathlib.Core.List.{List}
+use lib.ListN.{length}
+use lib.IntN.{ℤ}
+use Rattle.netpbm.specs.Write.{writtenOf, Writes}
+use Rattle.filter.specs.Room.{lent}
+use Rattle.filter.specs.Plane as Plane
+use Rattle.filter.specs.File as File
+use Rattle.capi.specs.Numbers.{Tells, writtenTold, planeTold, fileTold}
+
+-- `write_still`, for the answer that its definition gives
+pub record WritesStill (W H c : ℕ) (raster out out′ array array′ : List ℕ) (r : ℕ) : Type 0 where
+  pub wrote : Writes W H c raster out (writtenOf W H c (length raster) (length out)) out′
+  pub told : Tells (writtenTold (writtenOf W H c (length raster) (length out))) array array′ r
+
+-- `filter_plane`, for the answer that its definition gives
+pub record FiltersPlane (recipe : List ℕ) (W H : ℕ) (plane work work′ : List ℕ) (rows rows′ : List ℤ) (sums sums′ out out′ array array′ : List ℕ) (r : ℕ) : Type 0 where
+  pub filtered : Plane.FiltersPlane recipe W H plane work work′ rows rows′ sums sums′ out out′ (Plane.planeAnswer recipe W H (length plane) (lent (length work) (length rows) (length sums) (length out)))
+  pub told : Tells (planeTold (Plane.planeAnswer recipe W H (length plane) (lent (length work) (length rows) (length sums) (length out)))) array array′ r
+
+-- `filter_file`, for the answer that its definition gives
+pub record FiltersFile (recipe still work work′ : List ℕ) (rows rows′ : List ℤ) (sums sums′ out out′ array array′ : List ℕ) (r : ℕ) : Type 0 where
+  pub filtered : File.FiltersFile recipe still work work′ rows rows′ sums sums′ out out′ (File.fileAnswer recipe still (lent (length work) (length rows) (length sums) (length out)))
+  pub told : Tells (fileTold (File.fileAnswer recipe still (lent (length work) (length rows) (length sums) (length out)))) array array′ r

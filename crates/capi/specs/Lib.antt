@@ -1,0 +1,3 @@
+-- What a caller in C or Rust is told, definitions only.
+pub mod Numbers
+pub mod Calls
