@@ -1,0 +1,118 @@
+/* Hejslopi: Netpbm stills (P5, P6) filtered by a recipe. The interface for C.
+ *
+ * Link with target/staticlib/libcapi.a, which `rt staticlib capi` proves and builds (x86-64 Linux). It needs memcpy and
+ * memset and nothing else of the C library.
+ *
+ * Every call returns 0 when it is done, or the number of a refusal. The first test that fails decides.
+ * - Done: the values are in `result`, in the order given below. The output is written from its start; what is behind it in
+ *   the lent buffer stays. The work buffers (work, rows, sums) may hold anything.
+ * - Refused: no lent buffer is altered, neither `result`, nor the output, nor the work buffers.
+ * No content of the given bytes and no length of a lent buffer is an error of the program: each is answered.
+ *
+ * The caller owns all memory. Nothing is allocated, and no pointer is kept after a call returns. A call has no state and
+ * touches nothing but what it is handed, so calls may run in several threads at once, as long as no thread writes to what
+ * another one's call was handed. Bytes that are only read (recipe, still, plane, raster) may be shared.
+ * The stack needs less than 64 KiB.
+ *
+ * What the caller owes for each pointer:
+ * - it is not NULL, even if its length is 0 (then nothing is read or written through it: hand any address);
+ * - so many elements are there as its length says: lengths count elements, so 32-bit words for rows and sums;
+ * - it is aligned for its type, and `result` has as many elements as declared;
+ * - a buffer that is not const overlaps no other one of the same call.
+ */
+#ifndef HEJSLOPI_H
+#define HEJSLOPI_H
+
+#include <stddef.h>
+#include <stdint.h>
+
+#ifdef __cplusplus
+extern "C" {
+#endif
+
+enum hejslopi_refusal {
+    HEJSLOPI_DONE = 0,
+
+    /* the camera's file */
+    HEJSLOPI_MAGIC = 1,        /* the first two bytes are not P5 or P6, or there are fewer */
+    HEJSLOPI_HEADER = 2,       /* header malformed or cut */
+    HEJSLOPI_SIDE = 3,         /* a side outside 1 to 8,192 */
+    HEJSLOPI_MAXIMUM = 4,      /* maximum not 255 */
+    HEJSLOPI_RASTER_SHORT = 5, /* raster short */
+    HEJSLOPI_RASTER_LONG = 6,  /* bytes after the raster */
+
+    /* the recipe's author */
+    HEJSLOPI_STAGE_COUNT = 10, /* stage count not 1 to 8 */
+    HEJSLOPI_CUT = 11,         /* a field cut short or missing; an empty recipe too */
+    HEJSLOPI_TRAILING = 12,    /* bytes after the last stage */
+    HEJSLOPI_KIND = 13,        /* kind, border or border value */
+    HEJSLOPI_COUNT = 14,       /* count, divisor or radius; for hejslopi_filter_plane also a recipe of several stages */
+    HEJSLOPI_OFFSET = 15,      /* offset not -15 to 15, or not rising */
+    HEJSLOPI_REAL_WEIGHT = 16, /* real weight neither 0 nor of a magnitude from 2^-12 to 4 */
+    HEJSLOPI_GAIN = 17,        /* gain of an axis over 4 */
+    HEJSLOPI_POSITION = 18,    /* position of a rank not 1 to the window's area */
+
+    /* the calling program */
+    HEJSLOPI_CHANNELS = 19,    /* channels not 1 or 3 */
+    HEJSLOPI_ROOM = 20,        /* a lent buffer too short */
+
+    /* the two files on disk: only the program that reads files gives these, no call does */
+    HEJSLOPI_FILE_LONG = 21,   /* still over 65,536 bytes or recipe over 4,096 */
+    HEJSLOPI_FILE_UNREAD = 22  /* a file cannot be read, or the output not written */
+};
+
+/* How many elements must be lent for a picture of width w and height h.
+ * SUMS is for one box stage of radii r, s: a recipe needs the largest of its box stages, 0 if it has none. SUMS_ANY is enough
+ * for every recipe. FILE_ANY is enough for every file of w by h: its header has at most 17 bytes. A plane's output needs w*h. */
+#define HEJSLOPI_WORK(w, h) ((size_t)2 * (w) * (h))
+#define HEJSLOPI_ROWS(w, h) ((size_t)(w) * ((size_t)(h) + 30))
+#define HEJSLOPI_SUMS(w, h, r, s) (((size_t)(w) + 2 * (size_t)(r) + 1) * ((size_t)(h) + 2 * (size_t)(s) + 1))
+#define HEJSLOPI_SUMS_ANY(w, h) HEJSLOPI_SUMS(w, h, 15, 15)
+#define HEJSLOPI_FILE_ANY(w, h, channels) ((size_t)17 + (size_t)(w) * (h) * (channels))
+
+/* Read a still, a whole P5 or P6 file.
+ * result: width, height, channels (1 or 3), and the byte place in `bytes` where the raster starts.
+ * Refusals: 1, 2, 3, 4, 5, 6. */
+uint32_t hejslopi_read_still(const uint8_t *bytes, size_t bytes_len, uint64_t result[4]);
+
+/* Write a still: header and raster into `out`, which needs both (see FILE_ANY).
+ * raster: width * height * channels samples, row by row, the three of a pixel together.
+ * result: how many bytes were written.
+ * Refusals: 19, 3, 5, 6, 20. */
+uint32_t hejslopi_write_still(size_t width, size_t height, size_t channels,
+                              const uint8_t *raster, size_t raster_len,
+                              uint8_t *out, size_t out_len, uint64_t result[1]);
+
+/* Read a recipe.
+ * result: the number of stages S, and the tolerance T in 65,536ths of a level.
+ * Refusals: 10 to 18. */
+uint32_t hejslopi_read_recipe(const uint8_t *bytes, size_t bytes_len, uint64_t result[2]);
+
+/* Filter one plane of width * height samples by a recipe of one stage.
+ * Needs: WORK bytes in work, ROWS in rows, SUMS of a box stage in sums, width * height in out.
+ * result: T. Every written sample lies within T / 65,536 of the exact result.
+ * Refusals: 10 to 18, 14 if there is more than one stage, then 3, 5, 6, 20. */
+uint32_t hejslopi_filter_plane(const uint8_t *recipe, size_t recipe_len,
+                               size_t width, size_t height,
+                               const uint8_t *plane, size_t plane_len,
+                               uint8_t *work, size_t work_len,
+                               int32_t *rows, size_t rows_len,
+                               uint32_t *sums, size_t sums_len,
+                               uint8_t *out, size_t out_len, uint64_t result[1]);
+
+/* Filter a still, a whole P5 or P6 file, into another.
+ * Needs: WORK bytes in work, ROWS in rows, the largest SUMS of the box stages in sums, header and raster in out.
+ * result: width, height, channels, T, and how many bytes of out were written.
+ * Refusals: 10 to 18, then 1 to 6, then 20. */
+uint32_t hejslopi_filter_file(const uint8_t *recipe, size_t recipe_len,
+                              const uint8_t *still, size_t still_len,
+                              uint8_t *work, size_t work_len,
+                              int32_t *rows, size_t rows_len,
+                              uint32_t *sums, size_t sums_len,
+                              uint8_t *out, size_t out_len, uint64_t result[5]);
+
+#ifdef __cplusplus
+}
+#endif
+
+#endif
