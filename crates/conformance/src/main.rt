@@ -1,156 +1,101 @@
-// Calls the library on each file that its arguments name, and prints what the calls answer.
-// An argument is the path of a still (`still` in a folder of `vectors/`, or a file of `tools/`) or of a recipe (`recipe` in a folder of `vectors/`).
-use libc::STDOUT_FILENO;
-use netpbm::read::Still;
-use netpbm::write::Written;
-use recipe::Recipe;
+// Calls the library on the files that its arguments name, and prints what the calls answer.
+// An argument is the path of a still, of a recipe (it ends in `recipe`) or of a folder (it ends in `/`). A folder's still is filtered by its recipe, and the
+// answer and the output are compared with its files `line` and `out`. The numbers after a folder say how much must be lent at least: work bytes, row
+// values, sums and output bytes. Without them, or where they are 0, only the program's own lengths are tried.
+mod answers;
+mod calls;
+mod cases;
+mod files;
+mod junk;
+mod lending;
+mod recipes;
+mod same;
+mod say;
+mod stills;
+mod words;
 
-fn say(text: &[u8]) {
-    io::write_all(STDOUT_FILENO, text);
+ghost use Prim.Native.Nat.{_≤_};
+
+// What an argument was, and of a folder whether all its calls agreed.
+enum Shown {
+    File,
+    Case(bool),
 }
 
-fn number(n: usize) {
-    say(b" ");
-    io::print_decimal(STDOUT_FILENO, n as u64);
-}
-
-fn refused(n: u8) {
-    say(b" no");
-    number(n as usize);
-    say(b"\n");
-}
-
-fn picture(width: usize, height: usize, channels: usize, start: usize) {
-    say(b" ok");
-    number(width);
-    number(height);
-    number(channels);
-    number(start);
-    say(b"\n");
-}
-
-// One byte more in a checksum.
-fn mixed(sum: usize, b: u8) -> usize {
-    (sum % 65521 * 31 + b as usize) % 65521
-}
-
-fn checksum(bytes: &[u8]) -> usize {
-    let mut sum = 0;
-    let mut i = 0;
-    while i < bytes.len() {
-        sum = mixed(sum, bytes[i]);
-        i += 1;
-    }
-    sum
-}
-
-fn show_still(bytes: &[u8]) {
-    say(b"  read");
-    match netpbm::read::read_still(bytes) {
-        Still::Refused(n) => refused(n),
-        Still::Picture {
-            width,
-            height,
-            channels,
-            start,
-        } => {
-            picture(width, height, channels, start);
-            if start <= bytes.len() {
-                show_written(width, height, channels, &bytes[start..]);
-            }
-        }
-    }
-}
-
-fn show_written(width: usize, height: usize, channels: usize, raster: &[u8]) {
-    let mut out = io::large_buffer();
-    say(b"  written");
-    match netpbm::write::write_still(width, height, channels, raster, &mut out) {
-        Written::Refused(n) => refused(n),
-        Written::Length(n) => show_output(&out, n),
-    }
-}
-
-fn show_output(out: &[u8], n: usize) {
-    number(n);
-    if n <= out.len() {
-        number(checksum(&out[..n]));
-        say(b"\n");
-        show_again(&out[..n]);
-    }
-}
-
-fn show_again(bytes: &[u8]) {
-    say(b"  again");
-    match netpbm::read::read_still(bytes) {
-        Still::Refused(n) => refused(n),
-        Still::Picture {
-            width,
-            height,
-            channels,
-            start,
-        } => picture(width, height, channels, start),
-    }
-}
-
-fn stages(count: u8, tolerance: u64) {
-    say(b" ok");
-    number(count as usize);
-    say(b" ");
-    io::print_decimal(STDOUT_FILENO, tolerance);
-    say(b"\n");
-}
-
-fn show_recipe(bytes: &[u8]) {
-    say(b"  stages");
-    match recipe::read_recipe(bytes) {
-        Recipe::Refused(n) => refused(n),
-        Recipe::Stages { count, tolerance } => stages(count, tolerance),
-    }
-}
-
-// Whether a path ends as `recipe` does: no still's path ends so.
-fn names_recipe(path: &[u8]) -> bool {
+// The path of a folder ends in `/`, and of the files only that of a recipe in `e`.
+fn ends_in(path: &[u8], b: u8) -> bool {
     if path.len() < 1 {
         return false;
     }
-    path[path.len() - 1] == 101
+    path[path.len() - 1] == b
 }
 
-fn show(bytes: &[u8], as_recipe: bool) {
-    if as_recipe {
-        show_recipe(bytes);
-    } else {
-        show_still(bytes);
-    }
-}
-
-// The file that a path names, or `no file` where it cannot be opened.
 fn show_file(path: &[u8]) {
     let mut bytes = io::large_buffer();
     let fd = os::open_read(path);
     if fd < 0 {
-        say(b"  no file\n");
+        say::text(b"  no file\n");
         return;
     }
     let n = io::read_full(fd, &mut bytes);
     libc::close(fd);
-    show(&bytes[..n], names_recipe(path));
+    if ends_in(path, b'e') {
+        recipes::show(&bytes[..n]);
+    } else {
+        stills::show(&bytes[..n]);
+    }
 }
 
-fn show_case(i: usize) {
-    let mut path = io::buffer();
-    let n = os::arg(i, &mut path);
-    say(&path[..n]);
-    say(b"\n");
-    show_file(&path[..n]);
+fn show(path: &[u8], least: lending::Lent) -> Shown {
+    say::text(path);
+    say::text(b"\n");
+    if ends_in(path, b'/') {
+        return Shown::Case(cases::show(path, least));
+    }
+    show_file(path);
+    Shown::File
+}
+
+fn show_argument(i: usize) -> Shown {
+    let mut text = io::buffer();
+    let n = os::arg(i, &mut text);
+    let least = lending::after_path(&text[..n]);
+    let end = words::first(&text[..n]);
+    show(&text[..end], least)
+}
+
+fn case_count(shown: Shown) -> usize
+    ensures { λ r. ⌜ r ≤ 1 ⌝ }
+{
+    match shown {
+        Shown::File => 0,
+        Shown::Case(_) => 1,
+    }
+}
+
+fn agreed_count(shown: Shown) -> usize
+    ensures { λ r. ⌜ r ≤ 1 ⌝ }
+{
+    match shown {
+        Shown::File => 0,
+        Shown::Case(agreed) => { if agreed { 1 } else { 0 } }
+    }
 }
 
 fn main() {
     let count = os::arg_count();
+    let mut cases: usize = 0;
+    let mut agreed: usize = 0;
     let mut i = 1;
     while i < count {
-        show_case(i);
+        let shown = show_argument(i);
+        cases += case_count(shown);
+        agreed += agreed_count(shown);
         i += 1;
     }
+    say::text(b"cases");
+    say::number(cases as u64);
+    say::text(b" agreed");
+    say::number(agreed as u64);
+    say::text(b"\n");
 }

@@ -1,0 +1,16 @@
+// The call that reads a recipe.
+use crate::say;
+use recipe::Recipe;
+
+pub fn show(bytes: &[u8]) {
+    say::text(b"  stages");
+    match recipe::read_recipe(bytes) {
+        Recipe::Refused(n) => say::refusal(n),
+        Recipe::Stages { count, tolerance } => {
+            say::text(b" ok");
+            say::number(count as u64);
+            say::number(tolerance);
+        }
+    }
+    say::text(b"\n");
+}

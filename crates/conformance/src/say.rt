@@ -1,0 +1,34 @@
+// Words and numbers on standard output.
+use libc::STDOUT_FILENO;
+
+pub fn text(bytes: &[u8]) {
+    io::write_all(STDOUT_FILENO, bytes);
+}
+
+pub fn number(n: u64) {
+    text(b" ");
+    io::print_decimal(STDOUT_FILENO, n);
+}
+
+pub fn refusal(n: u8) {
+    text(b" no");
+    number(n as u64);
+}
+
+// What was held against what is wanted.
+pub fn same(holds: bool) {
+    if holds {
+        text(b" same");
+    } else {
+        text(b" DIFFERS");
+    }
+}
+
+// What was to stay as it was.
+pub fn kept(holds: bool) {
+    if holds {
+        text(b" kept");
+    } else {
+        text(b" ALTERED");
+    }
+}

@@ -1,0 +1,85 @@
+-- `hejslopi::main` meets its contract: What is found lies within the limits, and a buffer is a byte longer than its file's limit. Assumes nothing.
+use native.Mathlib.Omega.{arith}
+use mathlib.Core.Path.{sym, _∙_}
+use lib.Seq.{length-take-le}
+use Rattle.hejslopi.proofs.Limits.{found-within}
+use borrow.Author.Needs.{needs}
+use Rattle.hejslopi.proofs.main.Statement.{statement}
+use Rattle.hejslopi.proofs.main.Tie as tie
+use Rattle.hejslopi.proofs.disk.load.Reads as load-reads
+use Rattle.hejslopi.proofs.disk.tested.Reads as tested-reads
+use Rattle.hejslopi.proofs.filter.Reads as filter-reads
+use Rattle.hejslopi.proofs.refused.Reads as refused-reads
+
+slice-aggregate-load : tie.Need-slice-aggregate-load
+slice-aggregate-load c = search needs
+
+slice-aggregate-load-2 : tie.Need-slice-aggregate-load-2
+slice-aggregate-load-2 c = search needs
+
+load-requires : tie.Need-load-requires
+load-requires c κs = search needs
+
+slice-aggregate-load-3 : tie.Need-slice-aggregate-load-3
+slice-aggregate-load-3 c = search needs
+
+slice-aggregate-load-4 : tie.Need-slice-aggregate-load-4
+slice-aggregate-load-4 c = search needs
+
+load-requires-2 : tie.Need-load-requires-2
+load-requires-2 c κs = search needs
+
+tested-requires : tie.Need-tested-requires
+tested-requires c κs = search needs
+
+enum-known-n : tie.Need-enum-known-n
+enum-known-n c = search needs
+
+refused-requires : tie.Need-refused-requires
+refused-requires c κs = search needs
+
+enum-known-a : tie.Need-enum-known-a
+enum-known-a c = search needs
+
+array-share-prefix-recipe : tie.Need-array-share-prefix-recipe
+array-share-prefix-recipe c = omega (arith, found-within _ _ (sym (c .before .before .before .tested .ensures) ∙ c .before .a .given .1))
+
+slice-aggregate-filter : tie.Need-slice-aggregate-filter
+slice-aggregate-filter c = sym (length-take-le _ _ (omega (arith, found-within _ _ (sym (c .before .before .before .before .tested .ensures) ∙ c .before .before .a .given .1))))
+
+array-share-prefix-still : tie.Need-array-share-prefix-still
+array-share-prefix-still c = omega (arith, found-within _ _ (sym (c .before .before .before .before .tested .ensures) ∙ c .before .before .a .given .1))
+
+slice-aggregate-filter-2 : tie.Need-slice-aggregate-filter-2
+slice-aggregate-filter-2 c = sym (length-take-le _ _ (omega (arith, found-within _ _ (sym (c .before .before .before .before .before .tested .ensures) ∙ c .before .before .before .a .given .1))))
+
+filter-requires : tie.Need-filter-requires
+filter-requires c κs = search needs
+
+returns : tie.Need-returns
+returns c = search needs
+
+returns-2 : tie.Need-returns-2
+returns-2 c = search needs
+
+pub main-spec : {M : Type 1} → statement M
+main-spec =
+    tie.close
+    (tie.spec
+    slice-aggregate-load
+    slice-aggregate-load-2
+    load-requires
+    slice-aggregate-load-3
+    slice-aggregate-load-4
+    load-requires-2
+    tested-requires
+    enum-known-n
+    refused-requires
+    enum-known-a
+    array-share-prefix-recipe
+    slice-aggregate-filter
+    array-share-prefix-still
+    slice-aggregate-filter-2
+    filter-requires
+    returns
+    returns-2)
