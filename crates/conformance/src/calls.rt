@@ -129,7 +129,6 @@ pub fn show(asked: Asked, recipe: &[u8], bytes: &[u8], wanted: &[u8], lent: Lent
         say::text(b", tail");
     }
     say::kept(t.kept);
-    say::text(b"\n");
     t
 }
 
@@ -143,7 +142,11 @@ pub fn agrees(
     lent: Lent,
 ) -> bool {
     let t = show(asked, recipe, bytes, wanted, lent);
-    answers::same(t.answer, answer) && t.output && t.kept
+    let line = answers::same(t.answer, answer);
+    say::text(b", line");
+    say::same(line);
+    say::text(b"\n");
+    line && t.output && t.kept
 }
 
 // Whether a call is refused by this number, and alters nothing.

@@ -50,18 +50,20 @@ fn show_again(bytes: &[u8]) {
     }
 }
 
+fn show_call(name: &[u8], recipe: &[u8], still: &[u8], written: &[u8]) {
+    say::text(name);
+    calls::show(Asked::File, recipe, still, written, lending::program());
+    say::text(b"\n");
+}
+
 // By windows of one sample a rank, a binomial and a box give each sample back, so the output is the still as it is written.
 fn show_given_back(still: &[u8], written: &[u8]) {
-    let lent = lending::program();
-    say::text(b"  rank");
     let rank = b"\x01\x05\x01\x00\x00\x00\x00\x01";
-    calls::show(Asked::File, rank, still, written, lent);
-    say::text(b"  binomial");
+    show_call(b"  rank", rank, still, written);
     let binomial = b"\x01\x03\x01\x00\x00\x00";
-    calls::show(Asked::File, binomial, still, written, lent);
-    say::text(b"  box");
+    show_call(b"  binomial", binomial, still, written);
     let mean = b"\x01\x04\x01\x00\x00\x00";
-    calls::show(Asked::File, mean, still, written, lent);
+    show_call(b"  box", mean, still, written);
 }
 
 fn show_output(still: &[u8], written: &[u8]) {

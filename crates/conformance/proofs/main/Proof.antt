@@ -1,14 +1,8 @@
--- `conformance::main` meets its contract. Assumes nothing.
+-- `conformance::main` is safe and ends. Assumes nothing.
 use Prim.Native.Nat.{_≤_, _-_}
 use borrow.Author.Needs.{needs}
 use Rattle.conformance.proofs.main.Statement.{statement}
 use Rattle.conformance.proofs.main.Tie as tie
-use Rattle.conformance.proofs.agreed_count.Reads as agreed-count-reads
-use Rattle.conformance.proofs.case_count.Reads as case-count-reads
-use Rattle.conformance.proofs.say.number.Reads as number-reads
-use Rattle.conformance.proofs.say.text.Reads as text-reads
-use Rattle.conformance.proofs.show_argument.Reads as show-argument-reads
-use Rattle.os.proofs.arg_count.Reads as arg-count-reads
 
 abbrev Inv-loop : tie.InvT-loop
 Inv-loop count cases₀ agreed₀ i₀ t6 t7 t8 cases agreed i = (cases ≤ i) × (agreed ≤ i)

@@ -1,15 +1,9 @@
--- `conformance::show_argument` meets its contract. Assumes nothing.
-use native.Mathlib.Omega.{arith}
+-- `conformance::show_argument` is safe. Assumes nothing.
 use mathlib.Core.Path.{sym}
 use lib.Seq.{length-take-le}
 use borrow.Author.Needs.{needs}
 use Rattle.conformance.proofs.show_argument.Statement.{statement}
 use Rattle.conformance.proofs.show_argument.Tie as tie
-use Rattle.conformance.proofs.lending.after_path.Reads as after-path-reads
-use Rattle.conformance.proofs.show.Reads as show-reads
-use Rattle.conformance.proofs.words.first.Reads as first-reads
-use Rattle.io.proofs.buffer.Reads as buffer-reads
-use Rattle.os.proofs.arg.Reads as arg-reads
 
 buffer-requires : tie.Need-buffer-requires
 buffer-requires c κs = search needs

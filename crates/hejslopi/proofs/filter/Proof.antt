@@ -1,4 +1,4 @@
--- `hejslopi::filter` meets its contract: An accepted output fits what was lent. Assumes nothing.
+-- `hejslopi::filter` is safe: an accepted output fits what was lent. Assumes nothing.
 use native.Mathlib.Omega.{arith}
 use mathlib.Core.Path.{sym, _∙_}
 use lib.Seq.{length-take-le}
@@ -6,10 +6,6 @@ use Rattle.filter.proofs.Files.{file-accepted}
 use borrow.Author.Needs.{needs}
 use Rattle.hejslopi.proofs.filter.Statement.{statement}
 use Rattle.hejslopi.proofs.filter.Tie as tie
-use Rattle.filter.proofs.file.filter_file.Reads as filter-file-reads
-use Rattle.hejslopi.proofs.accepted.Reads as accepted-reads
-use Rattle.hejslopi.proofs.disk.save.Reads as save-reads
-use Rattle.hejslopi.proofs.refused.Reads as refused-reads
 
 slice-aggregate-filter-file : tie.Need-slice-aggregate-filter-file
 slice-aggregate-filter-file c = search needs

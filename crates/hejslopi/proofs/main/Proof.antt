@@ -1,4 +1,4 @@
--- `hejslopi::main` meets its contract: What is found lies within the limits, and a buffer is a byte longer than its file's limit. Assumes nothing.
+-- `hejslopi::main` is safe: what is found lies within the limits, and each buffer is a byte longer than its limit. Assumes nothing.
 use native.Mathlib.Omega.{arith}
 use mathlib.Core.Path.{sym, _∙_}
 use lib.Seq.{length-take-le}
@@ -6,10 +6,6 @@ use Rattle.hejslopi.proofs.Limits.{found-within}
 use borrow.Author.Needs.{needs}
 use Rattle.hejslopi.proofs.main.Statement.{statement}
 use Rattle.hejslopi.proofs.main.Tie as tie
-use Rattle.hejslopi.proofs.disk.load.Reads as load-reads
-use Rattle.hejslopi.proofs.disk.tested.Reads as tested-reads
-use Rattle.hejslopi.proofs.filter.Reads as filter-reads
-use Rattle.hejslopi.proofs.refused.Reads as refused-reads
 
 slice-aggregate-load : tie.Need-slice-aggregate-load
 slice-aggregate-load c = search needs

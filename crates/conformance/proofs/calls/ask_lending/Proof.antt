@@ -1,11 +1,9 @@
--- `conformance::calls::ask_lending` meets its contract. Assumes nothing.
+-- `conformance::calls::ask_lending` is safe. Assumes nothing.
 use mathlib.Core.Path.{sym}
 use lib.Seq.{length-take-le}
 use borrow.Author.Needs.{needs}
 use Rattle.conformance.proofs.calls.ask_lending.Statement.{statement}
 use Rattle.conformance.proofs.calls.ask_lending.Tie as tie
-use Rattle.conformance.proofs.answers.refused.Reads as refused-reads
-use Rattle.conformance.proofs.calls.ask.Reads as ask-reads
 
 slice-relend-prefix-ask : tie.Need-slice-relend-prefix-ask
 slice-relend-prefix-ask c = search needs

@@ -1,14 +1,10 @@
--- `conformance::cases::show_plane` meets its contract. Assumes nothing.
+-- `conformance::cases::show_plane` is safe. Assumes nothing.
 use native.Mathlib.Omega.{arith}
 use native.Mathlib.Nat.{mul-le-mul}
 use borrow.Author.Tests.{ltb-false}
 use borrow.Author.Needs.{needs}
 use Rattle.conformance.proofs.cases.show_plane.Statement.{statement}
 use Rattle.conformance.proofs.cases.show_plane.Tie as tie
-use Rattle.conformance.proofs.cases.show_call.Reads as show-call-reads
-use Rattle.conformance.proofs.cases.show_wrong.Reads as show-wrong-reads
-use Rattle.conformance.proofs.lending.with_output.Reads as with-output-reads
-use Rattle.conformance.proofs.say.text.Reads as text-reads
 
 returns : tie.Need-returns
 returns c = search needs

@@ -1,12 +1,8 @@
--- `conformance::cases::show_short` meets its contract. Assumes nothing.
-use Prim.Native.Nat.{_≤_, _-_}
+-- `conformance::cases::show_short` is safe and ends. Assumes nothing.
+use Prim.Native.Nat.{_-_}
 use borrow.Author.Needs.{needs}
 use Rattle.conformance.proofs.cases.show_short.Statement.{statement}
 use Rattle.conformance.proofs.cases.show_short.Tie as tie
-use Rattle.conformance.proofs.calls.refuses.Reads as refuses-reads
-use Rattle.conformance.proofs.lending.is_needed.Reads as is-needed-reads
-use Rattle.conformance.proofs.lending.short.Reads as short-reads
-use Rattle.conformance.proofs.say.text.Reads as text-reads
 
 abbrev Inv-loop : tie.InvT-loop
 Inv-loop asked recipe bytes least all₀ k₀ t9 t10 all k = Unit {0}

@@ -3,7 +3,6 @@ use Rattle.io.proofs.Counting.{counts}
 use borrow.Author.Needs.{needs}
 use Rattle.conformance.proofs.files.join.Statement.{statement}
 use Rattle.conformance.proofs.files.join.Tie as tie
-use Rattle.buffers.proofs.copy_front.Reads as copy-front-reads
 
 returns : tie.Need-returns
 returns c = search needs

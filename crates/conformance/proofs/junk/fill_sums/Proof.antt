@@ -1,11 +1,10 @@
--- `conformance::junk::fill_sums` meets its contract. Assumes nothing.
+-- `conformance::junk::fill_sums` is safe and ends. Assumes nothing.
 use Prim.Native.Nat.{_-_}
 use mathlib.Core.Path.{_≡_}
 use lib.ListN.{length, length-set}
 use borrow.Author.Needs.{needs}
 use Rattle.conformance.proofs.junk.fill_sums.Statement.{statement}
 use Rattle.conformance.proofs.junk.fill_sums.Tie as tie
-use Rattle.conformance.proofs.junk.sum.Reads as sum-reads
 
 abbrev Inv-loop : tie.InvT-loop
 Inv-loop dst₀ i₀ dst i = length dst ≡ length dst₀

@@ -1,11 +1,9 @@
--- `conformance::junk::sums_kept` meets its contract. Assumes nothing.
-use Prim.Native.Nat.{_≤_, _-_}
-use native.Mathlib.Omega.{arith}
+-- `conformance::junk::sums_kept` is safe and ends. Assumes nothing.
+use Prim.Native.Nat.{_-_}
 use lib.ListN.{length}
 use borrow.Author.Needs.{needs}
 use Rattle.conformance.proofs.junk.sums_kept.Statement.{statement}
 use Rattle.conformance.proofs.junk.sums_kept.Tie as tie
-use Rattle.conformance.proofs.junk.sum.Reads as sum-reads
 
 abbrev Inv-loop : tie.InvT-loop
 Inv-loop sums i₀ i = Unit {0}

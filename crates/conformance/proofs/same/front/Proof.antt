@@ -1,6 +1,5 @@
--- `conformance::same::front` meets its contract. Assumes nothing.
+-- `conformance::same::front` is safe and ends. Assumes nothing.
 use Prim.Native.Nat.{_≤_, _-_}
-use native.Mathlib.Omega.{arith}
 use lib.ListN.{length}
 use borrow.Author.Needs.{needs}
 use Rattle.conformance.proofs.same.front.Statement.{statement}

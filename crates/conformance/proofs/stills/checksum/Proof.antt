@@ -1,11 +1,9 @@
--- `conformance::stills::checksum` meets its contract. Assumes nothing.
+-- `conformance::stills::checksum` is safe and ends. Assumes nothing.
 use Prim.Native.Nat.{_≤_, _-_}
-use native.Mathlib.Omega.{arith}
 use lib.ListN.{length}
 use borrow.Author.Needs.{needs}
 use Rattle.conformance.proofs.stills.checksum.Statement.{statement}
 use Rattle.conformance.proofs.stills.checksum.Tie as tie
-use Rattle.conformance.proofs.stills.mixed.Reads as mixed-reads
 
 abbrev Inv-loop : tie.InvT-loop
 Inv-loop bytes sum₀ i₀ sum i = i ≤ length bytes

@@ -1,11 +1,9 @@
--- `conformance::stills::show_length` meets its contract. Assumes nothing.
+-- `conformance::stills::show_length` is safe. Assumes nothing.
 use mathlib.Core.Path.{sym}
 use lib.Seq.{length-take-le}
 use borrow.Author.Needs.{needs}
 use Rattle.conformance.proofs.stills.show_length.Statement.{statement}
 use Rattle.conformance.proofs.stills.show_length.Tie as tie
-use Rattle.conformance.proofs.say.number.Reads as number-reads
-use Rattle.conformance.proofs.stills.show_output.Reads as show-output-reads
 
 number-requires : tie.Need-number-requires
 number-requires c κs = search needs

@@ -1,11 +1,10 @@
--- `conformance::words::number` meets its contract. Assumes nothing.
+-- `conformance::words::number` is safe and ends. Assumes nothing.
 use Prim.Native.Nat.{_≤_, _-_}
 use mathlib.Core.Logic.{⊎-elim}
 use lib.ListN.{length}
 use borrow.Author.Needs.{needs}
 use Rattle.conformance.proofs.words.number.Statement.{statement}
 use Rattle.conformance.proofs.words.number.Tie as tie
-use Rattle.conformance.proofs.words.with_digit.Reads as with-digit-reads
 
 abbrev Inv-loop : tie.InvT-loop
 Inv-loop text k blanks₀ value₀ i₀ blanks value i = (i ≤ length text) × (blanks ≤ i)

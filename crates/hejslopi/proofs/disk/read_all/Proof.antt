@@ -1,12 +1,10 @@
--- `hejslopi::disk::read_all` meets its contract. Assumes nothing.
+-- `hejslopi::disk::read_all` is safe and ends: each turn reads a byte or more, or is the last. Assumes nothing.
 use Prim.Native.Nat.{_≤_, _-_}
 use mathlib.Core.Path.{_≡_}
 use lib.ListN.{length}
 use borrow.Author.Needs.{needs}
 use Rattle.hejslopi.proofs.disk.read_all.Statement.{statement}
 use Rattle.hejslopi.proofs.disk.read_all.Tie as tie
-use Rattle.io.proofs.count.Reads as count-reads
-use Rattle.libc.proofs.read.Reads as read-reads
 
 abbrev Inv-loop : tie.InvT-loop
 Inv-loop fd bytes₀ done₀ bytes done = (done ≤ length bytes) × (length bytes ≡ length bytes₀)

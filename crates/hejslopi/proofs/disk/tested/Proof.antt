@@ -1,4 +1,4 @@
--- `hejslopi::disk::tested` meets its contract: Each return is the first test that fails, or the last of all. Assumes nothing.
+-- `hejslopi::disk::tested` meets its contract: each return follows the first test that fails, and the last none. Assumes nothing.
 use Rattle.hejslopi.specs.Disk.{diskTests, found}
 use borrow.Author.Tests.{le-leb, lt-leb}
 use borrow.Author.Needs.{needs}
