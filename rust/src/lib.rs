@@ -1,0 +1,237 @@
+//! Netpbm stills (P5, P6) filtered by a recipe.
+//!
+//! Five calls: [`read_still`], [`write_still`], [`read_recipe`], [`filter_plane`], [`filter_file`]. Those that write have
+//! a form `.._into` that takes lent buffers and allocates nothing. A [`Refusal`] says why a call did nothing.
+//!
+//! ```
+//! let still = b"P5\n3 1\n255\n\x0A\x14\x28";
+//! let recipe = [1, 3, 1, 0, 1, 0]; // one stage: binomial, nearest, radius 1 across and 0 down
+//! let file = hejslopi::filter_file(&recipe, still)?;
+//! assert_eq!(file.bytes, b"P5\n3 1\n255\n\x0D\x17\x23");
+//! assert_eq!((file.width, file.height, file.channels, file.tolerance), (3, 1, 1, 34301));
+//! # Ok::<(), hejslopi::Refusal>(())
+//! ```
+
+pub mod raw;
+mod refusal;
+mod room;
+
+pub use refusal::Refusal;
+pub use room::{file_need, needs, Lent, Needs, Room};
+
+/// What a still's header says, and where its raster starts.
+#[derive(Clone, Copy, Debug, PartialEq, Eq)]
+pub struct Still {
+    pub width: usize,
+    pub height: usize,
+    pub channels: usize,
+    pub raster_start: usize,
+}
+
+/// A recipe's stages and its tolerance T, in 65,536ths of a level.
+#[derive(Clone, Copy, Debug, PartialEq, Eq)]
+pub struct Recipe {
+    pub stages: usize,
+    pub tolerance: u64,
+}
+
+/// A filtered file in a lent output: its first `length` bytes.
+#[derive(Clone, Copy, Debug, PartialEq, Eq)]
+pub struct Picture {
+    pub width: usize,
+    pub height: usize,
+    pub channels: usize,
+    pub tolerance: u64,
+    pub length: usize,
+}
+
+/// A filtered file.
+#[derive(Clone, Debug, PartialEq, Eq)]
+pub struct File {
+    pub width: usize,
+    pub height: usize,
+    pub channels: usize,
+    pub tolerance: u64,
+    pub bytes: Vec<u8>,
+}
+
+/// A filtered plane.
+#[derive(Clone, Debug, PartialEq, Eq)]
+pub struct Plane {
+    pub tolerance: u64,
+    pub samples: Vec<u8>,
+}
+
+fn answer<T>(number: u32, values: T) -> Result<T, Refusal> {
+    match number {
+        0 => Ok(values),
+        n => Err(Refusal::from_number(n).expect("a call returns 0 or a refusal's number")),
+    }
+}
+
+/// Read a whole P5 or P6 file.
+pub fn read_still(bytes: &[u8]) -> Result<Still, Refusal> {
+    let mut result = [0; 4];
+    // SAFETY: each pointer is of a reference, with the length of its slice.
+    let number = unsafe { raw::hejslopi_read_still(bytes.as_ptr(), bytes.len(), &mut result) };
+    let [width, height, channels, raster_start] = answer(number, result)?.map(|n| n as usize);
+    Ok(Still {
+        width,
+        height,
+        channels,
+        raster_start,
+    })
+}
+
+/// Write header and raster into `out`, giving their length.
+pub fn write_still_into(
+    width: usize,
+    height: usize,
+    channels: usize,
+    raster: &[u8],
+    out: &mut [u8],
+) -> Result<usize, Refusal> {
+    let mut result = [0; 1];
+    // SAFETY: each pointer is of a reference, with the length of its slice; `&mut` references do not overlap.
+    let number = unsafe {
+        raw::hejslopi_write_still(
+            width,
+            height,
+            channels,
+            raster.as_ptr(),
+            raster.len(),
+            out.as_mut_ptr(),
+            out.len(),
+            &mut result,
+        )
+    };
+    Ok(answer(number, result)?[0] as usize)
+}
+
+/// Write header and raster.
+pub fn write_still(
+    width: usize,
+    height: usize,
+    channels: usize,
+    raster: &[u8],
+) -> Result<Vec<u8>, Refusal> {
+    let mut out = vec![0; file_need(width, height, channels).unwrap_or(0)];
+    let length = write_still_into(width, height, channels, raster, &mut out)?;
+    out.truncate(length);
+    Ok(out)
+}
+
+/// Read a recipe.
+pub fn read_recipe(bytes: &[u8]) -> Result<Recipe, Refusal> {
+    let mut result = [0; 2];
+    // SAFETY: each pointer is of a reference, with the length of its slice.
+    let number = unsafe { raw::hejslopi_read_recipe(bytes.as_ptr(), bytes.len(), &mut result) };
+    let [stages, tolerance] = answer(number, result)?;
+    Ok(Recipe {
+        stages: stages as usize,
+        tolerance,
+    })
+}
+
+/// Filter a plane by a recipe of one stage into the first `width * height` bytes of `out`, giving T.
+/// [`needs`] says how much must be lent.
+pub fn filter_plane_into(
+    recipe: &[u8],
+    width: usize,
+    height: usize,
+    plane: &[u8],
+    lent: Lent<'_>,
+    out: &mut [u8],
+) -> Result<u64, Refusal> {
+    let mut result = [0; 1];
+    // SAFETY: each pointer is of a reference, with the length of its slice; `&mut` references do not overlap.
+    let number = unsafe {
+        raw::hejslopi_filter_plane(
+            recipe.as_ptr(),
+            recipe.len(),
+            width,
+            height,
+            plane.as_ptr(),
+            plane.len(),
+            lent.work.as_mut_ptr(),
+            lent.work.len(),
+            lent.rows.as_mut_ptr(),
+            lent.rows.len(),
+            lent.sums.as_mut_ptr(),
+            lent.sums.len(),
+            out.as_mut_ptr(),
+            out.len(),
+            &mut result,
+        )
+    };
+    Ok(answer(number, result)?[0])
+}
+
+/// Filter a plane by a recipe of one stage.
+pub fn filter_plane(
+    recipe: &[u8],
+    width: usize,
+    height: usize,
+    plane: &[u8],
+) -> Result<Plane, Refusal> {
+    if read_recipe(recipe)?.stages != 1 {
+        return Err(Refusal::Count);
+    }
+    let mut room = Room::new(needs(recipe, width, height)?);
+    let mut samples = vec![0; width * height];
+    let tolerance = filter_plane_into(recipe, width, height, plane, room.lend(), &mut samples)?;
+    Ok(Plane { tolerance, samples })
+}
+
+/// Filter a whole P5 or P6 file into the front of `out`. [`needs`] and [`file_need`] say how much must be lent.
+pub fn filter_file_into(
+    recipe: &[u8],
+    still: &[u8],
+    lent: Lent<'_>,
+    out: &mut [u8],
+) -> Result<Picture, Refusal> {
+    let mut result = [0; 5];
+    // SAFETY: each pointer is of a reference, with the length of its slice; `&mut` references do not overlap.
+    let number = unsafe {
+        raw::hejslopi_filter_file(
+            recipe.as_ptr(),
+            recipe.len(),
+            still.as_ptr(),
+            still.len(),
+            lent.work.as_mut_ptr(),
+            lent.work.len(),
+            lent.rows.as_mut_ptr(),
+            lent.rows.len(),
+            lent.sums.as_mut_ptr(),
+            lent.sums.len(),
+            out.as_mut_ptr(),
+            out.len(),
+            &mut result,
+        )
+    };
+    let [width, height, channels, tolerance, length] = answer(number, result)?;
+    Ok(Picture {
+        width: width as usize,
+        height: height as usize,
+        channels: channels as usize,
+        tolerance,
+        length: length as usize,
+    })
+}
+
+/// Filter a whole P5 or P6 file.
+pub fn filter_file(recipe: &[u8], still: &[u8]) -> Result<File, Refusal> {
+    read_recipe(recipe)?;
+    let picture = read_still(still)?;
+    let mut room = Room::new(needs(recipe, picture.width, picture.height)?);
+    let mut bytes = vec![0; file_need(picture.width, picture.height, picture.channels)?];
+    let done = filter_file_into(recipe, still, room.lend(), &mut bytes)?;
+    bytes.truncate(done.length);
+    Ok(File {
+        width: done.width,
+        height: done.height,
+        channels: done.channels,
+        tolerance: done.tolerance,
+        bytes,
+    })
+}

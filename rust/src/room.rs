@@ -1,0 +1,89 @@
+use crate::{read_recipe, Refusal};
+
+/// How many elements must be lent: work bytes, row values, sums.
+#[derive(Clone, Copy, Debug, PartialEq, Eq)]
+pub struct Needs {
+    pub work: usize,
+    pub rows: usize,
+    pub sums: usize,
+}
+
+/// Buffers lent to a call. After it has filtered they may hold anything.
+pub struct Lent<'a> {
+    pub work: &'a mut [u8],
+    pub rows: &'a mut [i32],
+    pub sums: &'a mut [u32],
+}
+
+/// Allocated buffers, to be lent to any number of calls.
+#[derive(Clone, Debug)]
+pub struct Room {
+    work: Vec<u8>,
+    rows: Vec<i32>,
+    sums: Vec<u32>,
+}
+
+impl Room {
+    pub fn new(needs: Needs) -> Room {
+        Room {
+            work: vec![0; needs.work],
+            rows: vec![0; needs.rows],
+            sums: vec![0; needs.sums],
+        }
+    }
+
+    pub fn lend(&mut self) -> Lent<'_> {
+        Lent {
+            work: &mut self.work,
+            rows: &mut self.rows,
+            sums: &mut self.sums,
+        }
+    }
+}
+
+fn sides(width: usize, height: usize) -> Result<(), Refusal> {
+    let fits = |n: usize| (1..=8192).contains(&n);
+    if fits(width) && fits(height) {
+        Ok(())
+    } else {
+        Err(Refusal::Side)
+    }
+}
+
+/// What filtering a picture of this size by this recipe needs: `2 W H` work bytes, `W (H + 30)` row values, and the largest
+/// `(W + 2r + 1)(H + 2s + 1)` sums of the box stages.
+pub fn needs(recipe: &[u8], width: usize, height: usize) -> Result<Needs, Refusal> {
+    let stages = read_recipe(recipe)?.stages;
+    sides(width, height)?;
+    let mut sums = 0;
+    let mut at = 1;
+    for _ in 0..stages {
+        let field = |k: usize| recipe[at + k] as usize;
+        let taps = field(3) + field(4);
+        at += match field(0) {
+            1 => 9 + 3 * taps,
+            2 => 5 + 5 * taps,
+            5 => 7,
+            4 => {
+                sums = sums.max((width + 2 * field(3) + 1) * (height + 2 * field(4) + 1));
+                5
+            }
+            _ => 5,
+        };
+    }
+    Ok(Needs {
+        work: 2 * width * height,
+        rows: width * (height + 30),
+        sums,
+    })
+}
+
+/// How many bytes a file of this size has: header and raster.
+pub fn file_need(width: usize, height: usize, channels: usize) -> Result<usize, Refusal> {
+    if channels != 1 && channels != 3 {
+        return Err(Refusal::Channels);
+    }
+    sides(width, height)?;
+    let digits = |n: usize| n.ilog10() as usize + 1;
+    Ok(9 + digits(width) + digits(height) + width * height * channels)
+}

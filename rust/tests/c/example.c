@@ -1,0 +1,61 @@
+/* Document 01's whole-program example, and each call once, from C. Prints `ok` and ends with 0 if all is as expected. */
+#include "hejslopi.h"
+
+#include <stdio.h>
+#include <string.h>
+
+#define CHECK(x) do { if (!(x)) { printf("line %d: %s\n", __LINE__, #x); return 1; } } while (0)
+
+int main(void)
+{
+    static const uint8_t still[] = "P5\n3 1\n255\n\x0A\x14\x28";
+    static const uint8_t wanted[] = "P5\n3 1\n255\n\x0D\x17\x23";
+    static const uint8_t recipe[] = { 1, 3, 1, 0, 1, 0 };
+    const size_t length = sizeof still - 1;
+
+    uint8_t work[HEJSLOPI_WORK(3, 1)];
+    int32_t rows[HEJSLOPI_ROWS(3, 1)];
+    uint32_t sums[HEJSLOPI_SUMS(3, 1, 1, 0)];
+    uint8_t out[HEJSLOPI_FILE_ANY(3, 1, 1)];
+    uint64_t result[5] = { 9, 9, 9, 9, 9 };
+
+    /* the program: its line and its output */
+    CHECK(hejslopi_filter_file(recipe, sizeof recipe, still, length, work, sizeof work, rows, HEJSLOPI_ROWS(3, 1),
+                               sums, 0, out, sizeof out, result) == HEJSLOPI_DONE);
+    char line[80];
+    snprintf(line, sizeof line, "ok %llu %llu %llu %llu", (unsigned long long)result[0], (unsigned long long)result[1],
+             (unsigned long long)result[2], (unsigned long long)result[3]);
+    CHECK(strcmp(line, "ok 3 1 1 34301") == 0);
+    CHECK(result[4] == length && memcmp(out, wanted, length) == 0);
+
+    /* a row value less: refused, and nothing altered */
+    memset(out, 7, sizeof out);
+    memset(result, 7, sizeof result);
+    CHECK(hejslopi_filter_file(recipe, sizeof recipe, still, length, work, sizeof work, rows, HEJSLOPI_ROWS(3, 1) - 1,
+                               sums, 0, out, sizeof out, result) == HEJSLOPI_ROOM);
+    for (size_t k = 0; k < sizeof out; k++)
+        CHECK(out[k] == 7);
+    for (size_t k = 0; k < sizeof result; k++)
+        CHECK(((const uint8_t *)result)[k] == 7);
+
+    /* the other four calls */
+    uint64_t four[4], two[2], one[1];
+    CHECK(hejslopi_read_still(still, length, four) == HEJSLOPI_DONE);
+    CHECK(four[0] == 3 && four[1] == 1 && four[2] == 1 && four[3] == 11);
+    CHECK(hejslopi_read_still(still, 1, four) == HEJSLOPI_MAGIC);
+    CHECK(hejslopi_read_recipe(recipe, sizeof recipe, two) == HEJSLOPI_DONE);
+    CHECK(two[0] == 1 && two[1] == 34301);
+    CHECK(hejslopi_read_recipe(recipe, 0, two) == HEJSLOPI_CUT);
+    CHECK(hejslopi_write_still(3, 1, 1, still + four[3], 3, out, sizeof out, one) == HEJSLOPI_DONE);
+    CHECK(one[0] == length && memcmp(out, still, length) == 0);
+    CHECK(hejslopi_write_still(3, 1, 2, still + four[3], 3, out, sizeof out, one) == HEJSLOPI_CHANNELS);
+
+    /* box of radius 1 across, nearest: 13 23 33 */
+    static const uint8_t box[] = { 1, 4, 1, 0, 1, 0 };
+    CHECK(hejslopi_filter_plane(box, sizeof box, 3, 1, still + four[3], 3, work, sizeof work, rows, HEJSLOPI_ROWS(3, 1),
+                                sums, HEJSLOPI_SUMS(3, 1, 1, 0), out, sizeof out, one) == HEJSLOPI_DONE);
+    CHECK(one[0] == 32768 && out[0] == 13 && out[1] == 23 && out[2] == 33);
+
+    puts("ok");
+    return 0;
+}

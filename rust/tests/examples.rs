@@ -1,0 +1,344 @@
+//! Document 01's examples and vectors, the wrappers, and a program in C.
+mod reference;
+
+use hejslopi::{Lent, Refusal};
+use std::path::{Path, PathBuf};
+use std::process::Command;
+
+fn repository() -> PathBuf {
+    Path::new(env!("CARGO_MANIFEST_DIR"))
+        .parent()
+        .unwrap()
+        .to_path_buf()
+}
+
+fn plane(recipe: &[u8], samples: &[u8; 3]) -> (Vec<u8>, u64) {
+    let done = hejslopi::filter_plane(recipe, 3, 1, samples).unwrap();
+    (done.samples, done.tolerance)
+}
+
+const BENCH: [u8; 3] = [10, 20, 40];
+
+/// Ratios at offsets -1 0 1 over a divisor, one vertical tap 1/1 at 0, nearest.
+fn ratios(a: [i16; 3], d: u16) -> Vec<u8> {
+    let mut recipe = vec![1, 1, 1, 0, 3, 1];
+    recipe.extend(d.to_be_bytes());
+    recipe.extend([0, 1, 255, 0, 1, 0]);
+    recipe.extend(a.iter().chain(&[1]).flat_map(|a| a.to_be_bytes()));
+    recipe
+}
+
+#[test]
+fn bench_stills() {
+    assert_eq!(
+        plane(&[1, 3, 1, 0, 1, 0], &BENCH),
+        (vec![13, 23, 35], 34301)
+    );
+    assert_eq!(
+        plane(&[1, 3, 0, 0, 1, 0], &BENCH),
+        (vec![10, 23, 25], 34301)
+    );
+    assert_eq!(
+        plane(&[1, 3, 3, 0, 1, 0], &BENCH),
+        (vec![20, 23, 28], 34301)
+    );
+    assert_eq!(
+        plane(&[1, 4, 1, 0, 1, 0], &BENCH),
+        (vec![13, 23, 33], 32768)
+    );
+    assert_eq!(
+        plane(&[1, 5, 1, 0, 1, 0, 0, 1], &BENCH),
+        (vec![10, 10, 20], 0)
+    );
+    assert_eq!(
+        plane(&[1, 5, 1, 0, 1, 0, 0, 2], &BENCH),
+        (vec![10, 20, 40], 0)
+    );
+    assert_eq!(
+        plane(&[1, 5, 1, 0, 1, 0, 0, 3], &BENCH),
+        (vec![20, 40, 40], 0)
+    );
+    assert_eq!(plane(&ratios([-1, 0, 1], 2), &BENCH).0, [5, 15, 10]);
+    assert_eq!(plane(&ratios([-1, 0, 1], 2), &[40, 20, 10]).0, [0, 0, 0]);
+    let two = [2, 3, 1, 0, 1, 1, 4, 1, 0, 1, 1];
+    assert_eq!(
+        hejslopi::read_recipe(&[1, 3, 1, 0, 1, 1])
+            .unwrap()
+            .tolerance,
+        34811
+    );
+    assert_eq!(hejslopi::read_recipe(&two).unwrap().tolerance, 67579);
+}
+
+#[test]
+fn the_reference_gives_the_papers_weights() {
+    let weights = |a, d| match &reference::read_recipe(&ratios(a, d)).unwrap()[0].work {
+        reference::Work::Weighted { across, .. } => reference::weights(across),
+        _ => unreachable!(),
+    };
+    assert_eq!(weights([1, 1, 1], 3), [21846, 21845, 21845]);
+    assert_eq!(weights([-1, -1, 5], 3), [-21845, -21845, 109226]);
+}
+
+#[test]
+fn gains_and_real_weights_at_their_limits() {
+    let one = |a: i16| {
+        [
+            &[1, 1, 1, 0, 1, 1, 0, 1, 0, 1, 0, 0][..],
+            &a.to_be_bytes(),
+            &[0, 1],
+        ]
+        .concat()
+    };
+    assert!(hejslopi::read_recipe(&one(4)).is_ok());
+    assert_eq!(hejslopi::read_recipe(&one(5)), Err(Refusal::Gain));
+    assert_eq!(
+        hejslopi::read_recipe(&ratios([4, 1, 0], 1)),
+        Err(Refusal::Gain)
+    );
+    let real = |bits: u32| {
+        [
+            &[1, 2, 1, 0, 1, 1, 0, 0][..],
+            &bits.to_be_bytes(),
+            &[0x3F, 0x80, 0, 0],
+        ]
+        .concat()
+    };
+    for (bits, accepted) in [
+        (0x39800000, true),
+        (0x397FFFFF, false),
+        (0x40800000, true),
+        (0x40800001, false),
+    ] {
+        assert_eq!(hejslopi::read_recipe(&real(bits)).is_ok(), accepted);
+    }
+    assert_eq!(
+        hejslopi::read_recipe(&real(0x7FC00000)),
+        Err(Refusal::RealWeight)
+    );
+}
+
+/// The line of document 01's program and what it writes, with its buffers, as either reading has it.
+fn program(
+    still: Option<Vec<u8>>,
+    recipe: Option<Vec<u8>>,
+    by_reference: bool,
+) -> Result<(String, Vec<u8>), u32> {
+    let limited = |file: Option<Vec<u8>>, most: usize| -> Result<Vec<u8>, u32> {
+        match file {
+            None => Err(22),
+            Some(bytes) if bytes.len() > most => Err(21),
+            Some(bytes) => Ok(bytes),
+        }
+    };
+    let still = limited(still, 65536)?;
+    let recipe = limited(recipe, 4096)?;
+    if by_reference {
+        let lent = reference::Lengths {
+            work: 32768,
+            rows: 16384,
+            sums: 16384,
+            out: 65536,
+        };
+        let (p, t, file) = reference::filter_file(&recipe, &still, lent)?;
+        return Ok((
+            format!("ok {} {} {} {t}", p.width, p.height, p.channels),
+            file,
+        ));
+    }
+    let (mut work, mut rows, mut sums, mut out) = (
+        vec![0; 32768],
+        vec![0; 16384],
+        vec![0; 16384],
+        vec![0; 65536],
+    );
+    let lent = Lent {
+        work: &mut work,
+        rows: &mut rows,
+        sums: &mut sums,
+    };
+    let p = hejslopi::filter_file_into(&recipe, &still, lent, &mut out).map_err(|r| r.number())?;
+    out.truncate(p.length);
+    Ok((
+        format!("ok {} {} {} {}", p.width, p.height, p.channels, p.tolerance),
+        out,
+    ))
+}
+
+#[test]
+fn vectors() {
+    let folder = repository().join("crates/conformance/data/vectors");
+    let mut tried = 0;
+    for entry in std::fs::read_dir(&folder).unwrap() {
+        let case = entry.unwrap().path();
+        let file = |name: &str| std::fs::read(case.join(name)).ok();
+        let line = String::from_utf8(file("line").unwrap()).unwrap();
+        for by_reference in [false, true] {
+            let (said, out) = match program(file("still"), file("recipe"), by_reference) {
+                Ok((line, out)) => (line, Some(out)),
+                Err(n) => (format!("no {n}"), None),
+            };
+            assert_eq!(
+                said,
+                line.trim_end(),
+                "{}, by the reference: {by_reference}",
+                case.display()
+            );
+            assert_eq!(
+                out,
+                file("out"),
+                "{}, by the reference: {by_reference}",
+                case.display()
+            );
+        }
+        tried += 1;
+    }
+    assert!(tried >= 274, "{tried} vectors");
+}
+
+#[test]
+fn wrappers() {
+    let file = b"P6\n1 2\n255\n\x01\x02\x03\x04\x05\x06";
+    let still = hejslopi::read_still(file).unwrap();
+    assert_eq!(
+        (
+            still.width,
+            still.height,
+            still.channels,
+            still.raster_start
+        ),
+        (1, 2, 3, 11)
+    );
+    assert_eq!(hejslopi::write_still(1, 2, 3, &file[11..]).unwrap(), file);
+    assert_eq!(
+        hejslopi::write_still(1, 2, 2, &file[11..]),
+        Err(Refusal::Channels)
+    );
+    assert_eq!(
+        hejslopi::write_still(0, 2, 3, &file[11..]),
+        Err(Refusal::Side)
+    );
+    assert_eq!(
+        hejslopi::write_still(1, 2, 3, &file[12..]),
+        Err(Refusal::RasterShort)
+    );
+    assert_eq!(
+        hejslopi::write_still(1, 2, 3, &file[10..]),
+        Err(Refusal::RasterLong)
+    );
+    assert_eq!(
+        hejslopi::write_still_into(1, 2, 3, &file[11..], &mut [0; 16]),
+        Err(Refusal::Room)
+    );
+    assert_eq!(hejslopi::read_still(b"P7"), Err(Refusal::Magic));
+
+    // the order of refusals: the recipe's, 14, the sides, the raster
+    let (one, two) = ([1, 4, 1, 0, 1, 0], [2, 4, 1, 0, 1, 0, 4, 1, 0, 1, 0]);
+    assert_eq!(
+        hejslopi::filter_plane(&[9], 0, 0, &[]),
+        Err(Refusal::StageCount)
+    );
+    assert_eq!(hejslopi::filter_plane(&two, 0, 0, &[]), Err(Refusal::Count));
+    assert_eq!(hejslopi::filter_plane(&one, 0, 1, &[]), Err(Refusal::Side));
+    assert_eq!(
+        hejslopi::filter_plane(&one, 2, 1, &[1]),
+        Err(Refusal::RasterShort)
+    );
+    assert_eq!(hejslopi::filter_file(&[9], b"P7"), Err(Refusal::StageCount));
+    assert_eq!(hejslopi::filter_file(&one, b"P7"), Err(Refusal::Magic));
+}
+
+/// What `needs` says is enough, whatever kinds of stages stand before a box, and one sum less is not.
+#[test]
+fn needs_are_exact() {
+    let mut recipe = vec![6, 4, 1, 0, 2, 1];
+    recipe.extend(&ratios([1, 1, 1], 3)[1..]);
+    recipe.extend([
+        2, 1, 0, 1, 2, 0, 0, 1, 0x3F, 0x80, 0, 0, 0x3F, 0, 0, 0, 0x3F, 0, 0, 0,
+    ]);
+    recipe.extend([3, 2, 0, 1, 1]);
+    recipe.extend([5, 3, 0, 1, 1, 0, 5]);
+    recipe.extend([4, 0, 9, 3, 4]);
+    let still = hejslopi::write_still(20, 10, 1, &[100; 200]).unwrap();
+    let needs = hejslopi::needs(&recipe, 20, 10).unwrap();
+    assert_eq!((needs.work, needs.rows, needs.sums), (400, 800, 27 * 19));
+    let mut out = vec![0; hejslopi::file_need(20, 10, 1).unwrap()];
+    let mut room = hejslopi::Room::new(needs);
+    assert!(hejslopi::filter_file_into(&recipe, &still, room.lend(), &mut out).is_ok());
+    let mut short = hejslopi::Room::new(hejslopi::Needs {
+        sums: needs.sums - 1,
+        ..needs
+    });
+    assert_eq!(
+        hejslopi::filter_file_into(&recipe, &still, short.lend(), &mut out),
+        Err(Refusal::Room)
+    );
+}
+
+#[test]
+fn refusals_have_numbers_and_words() {
+    let numbers: Vec<u32> = Refusal::ALL.iter().map(|r| r.number()).collect();
+    assert_eq!(
+        numbers,
+        [1, 2, 3, 4, 5, 6, 10, 11, 12, 13, 14, 15, 16, 17, 18, 19, 20, 21, 22]
+    );
+    for refusal in Refusal::ALL {
+        assert_eq!(Refusal::from_number(refusal.number()), Some(refusal));
+        assert!(refusal.to_string().len() > 10);
+    }
+    assert_eq!(Refusal::from_number(0), None);
+}
+
+/// Calls in several threads at once, each with 128 KiB of stack, over shared inputs.
+#[test]
+fn threads_with_small_stacks() {
+    let recipe = [3, 3, 1, 0, 15, 15, 4, 2, 0, 15, 15, 5, 3, 0, 1, 1, 0, 5];
+    let raster: Vec<u8> = (0..8192 * 4).map(|k| (k * k >> 7) as u8).collect();
+    let still = hejslopi::write_still(8192, 4, 1, &raster).unwrap();
+    let alone = hejslopi::filter_file(&recipe, &still).unwrap();
+    std::thread::scope(|scope| {
+        let threads: Vec<_> = (0..4)
+            .map(|_| {
+                let work = || hejslopi::filter_file(&recipe, &still).unwrap();
+                std::thread::Builder::new()
+                    .stack_size(128 * 1024)
+                    .spawn_scoped(scope, work)
+                    .unwrap()
+            })
+            .collect();
+        for thread in threads {
+            assert_eq!(thread.join().unwrap(), alone);
+        }
+    });
+}
+
+#[test]
+fn a_program_in_c() {
+    let program = Path::new(env!("CARGO_TARGET_TMPDIR")).join("example");
+    let source = Path::new(env!("CARGO_MANIFEST_DIR")).join("tests/c/example.c");
+    let built = Command::new(std::env::var("CC").unwrap_or("cc".into()))
+        .args([
+            "-std=c99",
+            "-Wall",
+            "-Wextra",
+            "-pedantic",
+            "-Werror",
+            "-O1",
+            "-o",
+        ])
+        .arg(&program)
+        .arg("-I")
+        .arg(repository().join("include"))
+        .arg(source)
+        .arg(env!("HEJSLOPI_LIB"))
+        .output()
+        .expect("cc can be run");
+    assert!(
+        built.status.success(),
+        "{}",
+        String::from_utf8_lossy(&built.stderr)
+    );
+    let run = Command::new(&program).output().unwrap();
+    assert_eq!(String::from_utf8_lossy(&run.stdout), "ok\n");
+    assert!(run.status.success());
+}

@@ -1,0 +1,251 @@
+//! Each call as C makes it, with guards around every buffer, held to the reference's answer.
+use super::{hex, Guarded, Rng};
+use crate::reference::{self, Lengths};
+use hejslopi::raw;
+
+fn result<const N: usize>(rng: &mut Rng) -> Guarded<u64> {
+    Guarded::new(N, || rng.next())
+}
+
+fn array<const N: usize>(guarded: &mut Guarded<u64>) -> *mut [u64; N] {
+    guarded.lend().as_mut_ptr().cast()
+}
+
+/// What was returned and what stands in the array, held to an answer.
+fn told(
+    number: u32,
+    result: &Guarded<u64>,
+    expected: &Result<Vec<u64>, u32>,
+) -> Result<(), String> {
+    if !result.guards_kept() {
+        return Err("around the result array".into());
+    }
+    match expected {
+        Ok(values) if number == 0 && result.held() == values => Ok(()),
+        Err(refusal) if number == *refusal && result.kept() => Ok(()),
+        _ => Err(format!(
+            "returned {number} with {:?}, expected {expected:?}",
+            result.held()
+        )),
+    }
+}
+
+fn all(checks: &[(bool, &str)]) -> Result<(), String> {
+    match checks.iter().find(|check| !check.0) {
+        Some((_, what)) => Err(format!("altered: {what}")),
+        None => Ok(()),
+    }
+}
+
+pub fn read_still(rng: &mut Rng, bytes: &[u8]) -> Result<u32, String> {
+    let mut result = result::<4>(rng);
+    let number =
+        unsafe { raw::hejslopi_read_still(bytes.as_ptr(), bytes.len(), array(&mut result)) };
+    let expected = reference::read_still(bytes).map(|p| {
+        vec![
+            p.width as u64,
+            p.height as u64,
+            p.channels as u64,
+            p.start as u64,
+        ]
+    });
+    told(number, &result, &expected)
+        .map(|()| number)
+        .map_err(|e| format!("{e}\nstill {}\n", hex(bytes)))
+}
+
+pub fn read_recipe(rng: &mut Rng, bytes: &[u8]) -> Result<u32, String> {
+    let mut result = result::<2>(rng);
+    let number =
+        unsafe { raw::hejslopi_read_recipe(bytes.as_ptr(), bytes.len(), array(&mut result)) };
+    let expected = reference::read_recipe(bytes)
+        .map(|stages| vec![stages.len() as u64, reference::tolerance(&stages)]);
+    told(number, &result, &expected)
+        .map(|()| number)
+        .map_err(|e| format!("{e}\nrecipe {}\n", hex(bytes)))
+}
+
+pub fn write_still(
+    rng: &mut Rng,
+    width: usize,
+    height: usize,
+    channels: usize,
+    raster: &[u8],
+    room: usize,
+) -> Result<u32, String> {
+    let mut result = result::<1>(rng);
+    let mut out = Guarded::new(room, || rng.byte());
+    let number = unsafe {
+        let lent = out.lend();
+        raw::hejslopi_write_still(
+            width,
+            height,
+            channels,
+            raster.as_ptr(),
+            raster.len(),
+            lent.as_mut_ptr(),
+            lent.len(),
+            array(&mut result),
+        )
+    };
+    let expected = reference::write_still(width, height, channels, raster, room);
+    let values = expected
+        .as_ref()
+        .map(|file| vec![file.len() as u64])
+        .map_err(|n| *n);
+    told(number, &result, &values)
+        .and_then(|()| match &expected {
+            Ok(file) => all(&[
+                (out.held().starts_with(file), "file"),
+                (out.kept_behind(file.len()), "output's tail"),
+            ]),
+            Err(_) => all(&[(out.kept(), "output")]),
+        })
+        .map(|()| number)
+        .map_err(|e| {
+            format!(
+                "{e}\nwidth {width} height {height} channels {channels} room {room}\nraster {}\n",
+                hex(raster)
+            )
+        })
+}
+
+/// The buffers of a filtering call.
+struct Lent {
+    work: Guarded<u8>,
+    rows: Guarded<i32>,
+    sums: Guarded<u32>,
+    out: Guarded<u8>,
+}
+
+impl Lent {
+    fn new(rng: &mut Rng, lengths: Lengths) -> Lent {
+        Lent {
+            work: Guarded::new(lengths.work, || rng.byte()),
+            rows: Guarded::new(lengths.rows, || rng.next() as i32),
+            sums: Guarded::new(lengths.sums, || rng.next() as u32),
+            out: Guarded::new(lengths.out, || rng.byte()),
+        }
+    }
+
+    /// What the buffers hold after a call that wrote these bytes, or refused.
+    fn held(&self, written: Result<&[u8], u32>) -> Result<(), String> {
+        match written {
+            Ok(bytes) => {
+                if let Some(k) = (0..bytes.len()).find(|&k| bytes[k] != self.out.held()[k]) {
+                    return Err(format!(
+                        "byte {k} of the output is {}, expected {}",
+                        self.out.held()[k],
+                        bytes[k]
+                    ));
+                }
+                all(&[
+                    (self.out.kept_behind(bytes.len()), "output's tail"),
+                    (self.work.guards_kept(), "around the work bytes"),
+                    (self.rows.guards_kept(), "around the row values"),
+                    (self.sums.guards_kept(), "around the sums"),
+                ])
+            }
+            Err(_) => all(&[
+                (self.out.kept(), "output"),
+                (self.work.kept(), "work bytes"),
+                (self.rows.kept(), "row values"),
+                (self.sums.kept(), "sums"),
+            ]),
+        }
+    }
+}
+
+pub fn filter_plane(
+    rng: &mut Rng,
+    recipe: &[u8],
+    w: usize,
+    h: usize,
+    plane: &[u8],
+    lengths: Lengths,
+) -> Result<u32, String> {
+    let mut result = result::<1>(rng);
+    let mut lent = Lent::new(rng, lengths);
+    let number = unsafe {
+        let (work, rows) = (lent.work.lend(), lent.rows.lend());
+        let (sums, out) = (lent.sums.lend(), lent.out.lend());
+        raw::hejslopi_filter_plane(
+            recipe.as_ptr(),
+            recipe.len(),
+            w,
+            h,
+            plane.as_ptr(),
+            plane.len(),
+            work.as_mut_ptr(),
+            work.len(),
+            rows.as_mut_ptr(),
+            rows.len(),
+            sums.as_mut_ptr(),
+            sums.len(),
+            out.as_mut_ptr(),
+            out.len(),
+            array(&mut result),
+        )
+    };
+    let expected = reference::filter_plane(recipe, w, h, plane, lengths);
+    let values = expected.as_ref().map(|e| vec![e.0]).map_err(|n| *n);
+    told(number, &result, &values)
+        .and_then(|()| lent.held(expected.as_ref().map(|e| &e.1[..]).map_err(|n| *n)))
+        .map(|()| number)
+        .map_err(|e| {
+            let (recipe, plane) = (hex(recipe), hex(plane));
+            format!("{e}\nrecipe {recipe}\nwidth {w} height {h} {lengths:?}\nplane {plane}\n")
+        })
+}
+
+pub fn filter_file(
+    rng: &mut Rng,
+    recipe: &[u8],
+    still: &[u8],
+    lengths: Lengths,
+) -> Result<u32, String> {
+    let mut result = result::<5>(rng);
+    let mut lent = Lent::new(rng, lengths);
+    let number = unsafe {
+        let (work, rows) = (lent.work.lend(), lent.rows.lend());
+        let (sums, out) = (lent.sums.lend(), lent.out.lend());
+        raw::hejslopi_filter_file(
+            recipe.as_ptr(),
+            recipe.len(),
+            still.as_ptr(),
+            still.len(),
+            work.as_mut_ptr(),
+            work.len(),
+            rows.as_mut_ptr(),
+            rows.len(),
+            sums.as_mut_ptr(),
+            sums.len(),
+            out.as_mut_ptr(),
+            out.len(),
+            array(&mut result),
+        )
+    };
+    let expected = reference::filter_file(recipe, still, lengths);
+    let values = expected
+        .as_ref()
+        .map(|(p, t, file)| {
+            vec![
+                p.width as u64,
+                p.height as u64,
+                p.channels as u64,
+                *t,
+                file.len() as u64,
+            ]
+        })
+        .map_err(|n| *n);
+    told(number, &result, &values)
+        .and_then(|()| lent.held(expected.as_ref().map(|e| &e.2[..]).map_err(|n| *n)))
+        .map(|()| number)
+        .map_err(|e| {
+            format!(
+                "{e}\nrecipe {}\n{lengths:?}\nstill {}\n",
+                hex(recipe),
+                hex(still)
+            )
+        })
+}

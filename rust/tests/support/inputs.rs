@@ -1,0 +1,228 @@
+//! Random stills and recipes, whole and damaged.
+use super::Rng;
+use crate::reference::{Stage, Work};
+
+/// Damages bytes in one to three places.
+pub fn damage(rng: &mut Rng, bytes: &mut Vec<u8>, within: usize) {
+    const TELLING: [u8; 24] = [
+        0, 1, 2, 3, 4, 5, 6, 8, 9, 10, 11, 12, 13, 15, 16, 31, 32, 35, 48, 127, 128, 240, 241, 255,
+    ];
+    for _ in 0..rng.size(1, 3) {
+        if bytes.is_empty() {
+            bytes.push(rng.byte());
+        }
+        let at = rng.size(0, within.min(bytes.len()).max(1) - 1);
+        match rng.size(0, 7) {
+            0 => bytes[at] = rng.byte(),
+            1 => bytes[at] ^= 1 << rng.size(0, 7),
+            2 => bytes.truncate(at),
+            3 => bytes.push(rng.byte()),
+            4 => drop(bytes.remove(at)),
+            5 => bytes.insert(at, rng.pick(&TELLING)),
+            6 => drop(bytes.pop()),
+            _ => bytes[at] = rng.pick(&TELLING),
+        }
+    }
+}
+
+/// Few, and now and then many.
+fn count(rng: &mut Rng, low: usize, high: usize) -> usize {
+    if rng.one_in(4) {
+        rng.size(low, high)
+    } else {
+        rng.size(low, (low + 3).min(high))
+    }
+}
+
+fn offsets(rng: &mut Rng, n: usize) -> Vec<i8> {
+    let near = if n <= 7 && !rng.one_in(3) { 3 } else { 15 };
+    let mut all: Vec<i8> = (-near..=near).collect();
+    while all.len() > n {
+        let k = rng.size(0, all.len() - 1);
+        all.remove(k);
+    }
+    all
+}
+
+/// A divisor, and weights that mostly keep to the gain.
+fn ratios(rng: &mut Rng, n: usize) -> (u16, Vec<i16>) {
+    let divisor = match rng.size(0, 2) {
+        0 => rng.range(1, 16),
+        1 => 1 << rng.range(0, 15),
+        _ => rng.range(1, 65535),
+    };
+    let mut weights = Vec::new();
+    let to_one = rng.one_in(2);
+    let mut left = if to_one { divisor } else { 4 * divisor };
+    for k in 0..n as i64 {
+        let taps = n as i64 - k;
+        let size = if to_one && taps == 1 {
+            left
+        } else {
+            rng.range(0, (2 * left / taps).min(left))
+        };
+        let size = size.min(32767);
+        left -= size;
+        weights.push(if !to_one && rng.one_in(3) {
+            -size
+        } else {
+            size
+        } as i16);
+    }
+    if rng.one_in(20) {
+        let k = rng.size(0, n - 1);
+        weights[k] = rng.pick(&[i16::MIN, i16::MAX, -1, 0, 1, weights[k].wrapping_add(1)]);
+    }
+    (divisor as u16, weights)
+}
+
+fn reals(rng: &mut Rng, n: usize) -> Vec<u32> {
+    let most = if rng.one_in(2) { 1.0 } else { 4.0 } / n as f64;
+    let mut weights: Vec<u32> = (0..n)
+        .map(|_| {
+            let part = (rng.next() >> 11) as f64 / (1u64 << 53) as f64;
+            let size = (most * part).max(1.0 / 4096.0) as f32;
+            let signed = if rng.one_in(3) { -size } else { size };
+            if rng.one_in(10) {
+                rng.pick(&[0, 0x8000_0000])
+            } else {
+                signed.to_bits()
+            }
+        })
+        .collect();
+    if rng.one_in(6) {
+        let k = rng.size(0, n - 1);
+        weights[k] = rng.pick(&[
+            0x39800000, 0x397FFFFF, 0x40800000, 0x40800001, 0xB9800000, 0xC0800000, 0x7F800000,
+            0x7FC00000, 0x00000001, 0x3F800000, 0x3F000000, 0xBF800000, 0xFF800000, 0x40000000,
+        ]);
+    }
+    weights
+}
+
+fn stage(rng: &mut Rng, bytes: &mut Vec<u8>) {
+    let kind = rng.range(1, 5) as u8;
+    let border = rng.range(0, 3) as u8;
+    bytes.extend([kind, border, if border == 0 { rng.byte() } else { 0 }]);
+    if kind <= 2 {
+        let (n, m) = (count(rng, 1, 31), count(rng, 1, 31));
+        bytes.extend([n as u8, m as u8]);
+        let (across, down) = (ratios(rng, n), ratios(rng, m));
+        if kind == 1 {
+            bytes.extend(across.0.to_be_bytes());
+            bytes.extend(down.0.to_be_bytes());
+        }
+        for k in [n, m] {
+            bytes.extend(offsets(rng, k).iter().map(|o| *o as u8));
+        }
+        if kind == 1 {
+            bytes.extend(across.1.iter().chain(&down.1).flat_map(|a| a.to_be_bytes()));
+        } else {
+            let weights: Vec<u32> = reals(rng, n).into_iter().chain(reals(rng, m)).collect();
+            bytes.extend(weights.iter().flat_map(|a| a.to_be_bytes()));
+        }
+        return;
+    }
+    let (r, s) = (count(rng, 0, 15), count(rng, 0, 15));
+    bytes.extend([r as u8, s as u8]);
+    if kind == 5 {
+        let area = (2 * r + 1) * (2 * s + 1);
+        let any = rng.size(1, area);
+        let p = rng.pick(&[1, area, (area + 1) / 2, any]);
+        bytes.extend((p as u16).to_be_bytes());
+    }
+}
+
+/// A recipe that is mostly accepted.
+pub fn recipe(rng: &mut Rng, stages: usize) -> Vec<u8> {
+    let mut bytes = vec![stages as u8];
+    for _ in 0..stages {
+        stage(rng, &mut bytes);
+    }
+    bytes
+}
+
+/// About how long the reference takes for a sample, in nanoseconds.
+pub fn cost(stages: &[Stage]) -> usize {
+    let one = |stage: &Stage| match &stage.work {
+        Work::Weighted { across, down } => 20 + 5 * (across.taps.len() + down.taps.len()),
+        Work::Box { r, s } => 20 + 3 * ((2 * r + 1) * (2 * s + 1)) as usize,
+        Work::Rank { r, s, .. } => 50 + 20 * ((2 * r + 1) * (2 * s + 1)) as usize,
+    };
+    stages.iter().map(one).sum::<usize>().max(20)
+}
+
+/// A size whose samples the reference can filter within so many nanoseconds.
+pub fn size(rng: &mut Rng, cost: usize, nanoseconds: usize) -> (usize, usize) {
+    let most = rng.pick(&[2, 4, 8, 8, 20, 40, 100, 400]);
+    let (mut w, mut h) = (rng.size(1, most), rng.size(1, most));
+    while w * h > 1 && w * h * cost > nanoseconds {
+        if rng.one_in(2) {
+            w = (w + 1) / 2;
+        } else {
+            h = (h + 1) / 2;
+        }
+    }
+    (w, h)
+}
+
+pub fn samples(rng: &mut Rng, count: usize) -> Vec<u8> {
+    match rng.size(0, 5) {
+        0 => (0..count).map(|_| rng.pick(&[0, 255])).collect(),
+        1 => vec![rng.byte(); count],
+        2 => (0..count).map(|k| (k * 7) as u8).collect(),
+        3 => {
+            let mut all = vec![0; count];
+            if count > 0 {
+                all[rng.size(0, count - 1)] = 255;
+            }
+            all
+        }
+        _ => (0..count).map(|_| rng.byte()).collect(),
+    }
+}
+
+fn separators(rng: &mut Rng) -> Vec<u8> {
+    let mut bytes = Vec::new();
+    for _ in 0..(if rng.one_in(4) { rng.size(1, 4) } else { 1 }) {
+        if rng.one_in(6) {
+            bytes.push(b'#');
+            bytes.extend((0..rng.size(0, 5)).map(|_| rng.pick(&[b'#', b' ', b'7', b'P', 0, 200])));
+            bytes.push(b'\n');
+        } else {
+            bytes.push(rng.pick(&[b' ', b'\n', b'\t', b'\r', b' ', b'\n']));
+        }
+    }
+    bytes
+}
+
+fn number(rng: &mut Rng, n: usize) -> Vec<u8> {
+    let zeros = if rng.one_in(8) { rng.size(1, 30) } else { 0 };
+    let mut bytes = vec![b'0'; zeros];
+    bytes.extend(n.to_string().bytes());
+    bytes
+}
+
+/// A still's file, with the header written in one of many ways.
+pub fn still(
+    rng: &mut Rng,
+    w: usize,
+    h: usize,
+    channels: usize,
+    maximum: usize,
+    raster: &[u8],
+) -> (Vec<u8>, usize) {
+    let mut bytes = if channels == 1 {
+        b"P5".to_vec()
+    } else {
+        b"P6".to_vec()
+    };
+    for n in [w, h, maximum] {
+        bytes.extend(separators(rng));
+        bytes.extend(number(rng, n));
+    }
+    bytes.push(rng.pick(&[b' ', b'\n', b'\t', b'\r', b'\n']));
+    let header = bytes.len();
+    bytes.extend_from_slice(raster);
+    (bytes, header)
+}
