@@ -134,8 +134,10 @@ pub fn compare(name: &str, inputs: u64, one: impl Fn(&mut Rng, &mut Tally) -> Re
     for k in 0..inputs {
         let seed = base.wrapping_mul(1_000_003).wrapping_add(k);
         if let Err(case) = one(&mut Rng::new(seed), &mut tally) {
-            let path = std::path::Path::new(env!("CARGO_TARGET_TMPDIR"))
-                .join(format!("failing-{name}-{seed}.txt"));
+            let path = std::path::Path::new(env!("CARGO_TARGET_TMPDIR")).join(format!(
+                "failing-{}-{seed}.txt",
+                name.replace([' ', ','], "")
+            ));
             std::fs::write(&path, &case).expect("the failing case can be written");
             let first = case.lines().next().unwrap_or("");
             panic!(
