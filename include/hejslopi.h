@@ -12,7 +12,7 @@
  * The caller owns all memory. Nothing is allocated, and no pointer is kept after a call returns. A call has no state and
  * touches nothing but what it is handed, so calls may run in several threads at once, as long as no thread writes to what
  * another one's call was handed. Bytes that are only read (recipe, still, plane, raster) may be shared.
- * A call needs less than 128 KiB of stack.
+ * Calls were tried with 128 KiB of stack; nothing proves a bound.
  *
  * What the caller owes for each pointer:
  * - it is not NULL, even if its length is 0 (then nothing is read or written through it: hand any address);

@@ -1,1 +1,2 @@
+-- Summed-area tables, definitions only.
 pub mod Table

@@ -1,1 +1,2 @@
+-- Channels of a raster, definitions only.
 pub mod Channel

@@ -33,6 +33,7 @@ stillAnswer ts l (Still.Picture W H c start) = tested Refused (roomTests W H ts 
 unfoldable pub fileAnswer : List ℕ → List ℕ → Lent → File
 fileAnswer recipe still l = tested Refused (recipeTests recipe) (stillAnswer (recipeStages recipe) l (stillOf still))
 
+-- whether an answer is a refusal
 abbrev pub refused : File → Bool
 refused (Refused n) = true
 refused (Picture W H c T n) = false

@@ -32,6 +32,7 @@ planeTests recipe W H n l =
 unfoldable pub planeAnswer : List ℕ → ℕ → ℕ → ℕ → Lent → Filtered
 planeAnswer recipe W H n l = tested Refused (recipeTests recipe ++ planeTests recipe W H n l) (Tolerance (tolerance (recipeStages recipe)))
 
+-- whether an answer is a refusal
 abbrev pub refused : Filtered → Bool
 refused (Refused n) = true
 refused (Tolerance T) = false

@@ -18,6 +18,7 @@ pub record Lent : Type 0 where
   pub sums : ℕ
   pub out : ℕ
 
+-- these lengths
 abbrev pub lent : ℕ → ℕ → ℕ → ℕ → Lent
 lent works rows sums out = record { works = works; rows = rows; sums = sums; out = out }
 

@@ -18,6 +18,7 @@ ghost use Rattle.recipe.specs.Recipe.{recipeTests, recipeStages};
 ghost use Rattle.filter.specs.Room.{lent, Sufficient};
 ghost use Rattle.filter.specs.File.{fileSize, stillAnswer, fileAnswer, filteredRaster, FiltersFile};
 
+// The answer: a refusal's number, or the picture's size, T and the output's length.
 pub enum File {
     Refused(u8),
     Picture {

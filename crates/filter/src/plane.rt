@@ -11,16 +11,16 @@ ghost use Rattle.refusals.specs.Refusal.{verdict};
 ghost use Rattle.refusals.specs.declared.Verdict.the-variants.{Passed};
 ghost use Rattle.model.specs.Stage.{written};
 ghost use Rattle.recipe.specs.Recipe.{recipeTests, recipeStages};
-ghost use Rattle.stages.specs.Needs.{sumNeed};
 ghost use Rattle.filter.specs.Room.{lent, Sufficient};
 ghost use Rattle.filter.specs.Plane.{planeTests, planeAnswer, FiltersPlane};
 
+// The answer: a refusal's number, or T.
 pub enum Filtered {
     Refused(u8),
     Tolerance(u64),
 }
 
-// The tests after the recipe's, of a recipe of `count` stages.
+// The tests after the recipe's, of an accepted recipe.
 fn tests(
     recipe: &[u8],
     w: usize,

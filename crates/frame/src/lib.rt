@@ -2,8 +2,8 @@
 use recipe::stage::Border;
 ghost use mathlib.Core.Path.{_≡_};
 ghost use mathlib.Core.List.{_++_};
-ghost use Prim.Native.Nat.{ℕ, _+_, _*_, _≤_, _<_};
-ghost use lib.ListN.{length, getD, drop};
+ghost use Prim.Native.Nat.{_+_, _*_, _≤_, _<_};
+ghost use lib.ListN.{length, drop};
 ghost use Rattle.lists.specs.Tabulate.{tabulate};
 ghost use Rattle.model.specs.Border.{constant, nearest, mirror, wrap, supply};
 ghost use Rattle.model.specs.Plane.{planeOf};
@@ -13,9 +13,6 @@ ghost use Rattle.frame.specs.Padded.{placeOf, rowPick, padded, Frame};
 
 // How far an offset reaches. Places are held this much too large, so they are at least 0.
 pub const REACH: usize = 15;
-
-// Room for a row of the widest frame, the samples on both sides and two to spare.
-pub const PADDED: usize = 8224;
 
 // The index itself, or n outside.
 fn inside(n: usize, x: usize) -> usize
@@ -28,6 +25,7 @@ fn inside(n: usize, x: usize) -> usize
     if x - 15 < n { x - 15 } else { n }
 }
 
+// The closest index inside.
 fn closest(n: usize, x: usize) -> usize
     requires { ⌜ (1 ≤ n) × (x ≤ 16384) ⌝ }
     ensures { λ r. ⌜ r ≡ placeOf n (supply nearest n (offsetOf x)) ⌝ }
@@ -54,7 +52,7 @@ fn mirrored(n: usize, x: usize) -> usize
     if x < end { end - x } else { 0 }
 }
 
-// 15 (n - 1) is -15 and a multiple of n.
+// 15 (n - 1) is -15 and 15 n more, so the sum is x - 15 modulo n.
 fn wrapped(n: usize, x: usize) -> usize
     requires { ⌜ (1 ≤ n) × (n ≤ 8192) × (x ≤ 16384) ⌝ }
     ensures { λ r. ⌜ r ≡ placeOf n (supply wrap n (offsetOf x)) ⌝ }

@@ -10,6 +10,7 @@ use Rattle.hejslopi.specs.declared.disk.Loaded.the-variants.{Unread, Byt
 use Rattle.hejslopi.specs.declared.disk.Found.{Found}
 use Rattle.hejslopi.specs.declared.disk.Found.the-variants.{Refused, Lengths}
 
+-- whether a file could be read
 abbrev pub isRead : Loaded → Bool
 isRead Unread = false
 isRead (Bytes n) = true

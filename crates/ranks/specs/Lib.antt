@@ -1,1 +1,2 @@
+-- Counts of grey levels, definitions only.
 pub mod Histogram

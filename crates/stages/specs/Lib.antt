@@ -1,1 +1,2 @@
+-- What the stages of a recipe need, definitions only.
 pub mod Needs

@@ -1,1 +1,2 @@
+-- Sums by the taps that the code holds, definitions only.
 pub mod Held
