@@ -1,8 +1,8 @@
 // What either filtering call answers, in the numbers of a line.
-use crate::say;
-use crate::words;
 use filter::file::File;
 use filter::plane::Filtered;
+use trial::say;
+use trial::words;
 
 // A refusal and nothing else; or 0, and a picture with its tolerance and the output's length.
 pub struct Answer {

@@ -1,12 +1,12 @@
 // The two filtering calls on buffers that hold junk.
 use crate::answers;
 use crate::answers::Answer;
-use crate::junk;
-use crate::lending::Lent;
-use crate::same;
-use crate::say;
 use filter::file;
 use filter::plane;
+use trial::junk;
+use trial::lending::Lent;
+use trial::same;
+use trial::say;
 
 // Which call is made on some bytes: on a file's, or on the samples of a plane with these sides.
 pub enum Asked {

@@ -3,10 +3,10 @@ use crate::answers;
 use crate::answers::Answer;
 use crate::calls;
 use crate::calls::Asked;
-use crate::files;
-use crate::lending;
-use crate::lending::Lent;
-use crate::say;
+use trial::files;
+use trial::lending;
+use trial::lending::Lent;
+use trial::say;
 
 // A buffer too short, in each of the four places in turn; `-` where nothing need be lent.
 fn show_short(asked: Asked, recipe: &[u8], bytes: &[u8], least: Lent) -> bool {

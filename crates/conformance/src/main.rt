@@ -5,15 +5,12 @@
 mod answers;
 mod calls;
 mod cases;
-mod files;
-mod junk;
-mod lending;
 mod recipes;
-mod same;
-mod say;
 mod stills;
-mod words;
 
+use trial::lending;
+use trial::say;
+use trial::words;
 ghost use Prim.Native.Nat.{_≤_};
 
 // What an argument was, and of a folder whether all its calls agreed.

@@ -1,6 +1,6 @@
 // The call that reads a recipe.
-use crate::say;
 use recipe::Recipe;
+use trial::say;
 
 pub fn show(bytes: &[u8]) {
     say::text(b"  stages");

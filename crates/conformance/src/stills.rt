@@ -1,12 +1,13 @@
 // The calls that read and write a still, and recipes that give a picture back.
 use crate::calls;
 use crate::calls::Asked;
-use crate::lending;
-use crate::say;
 use netpbm::read;
 use netpbm::read::Still;
 use netpbm::write;
 use netpbm::write::Written;
+use trial::digest;
+use trial::lending;
+use trial::say;
 
 fn picture(width: usize, height: usize, channels: usize, start: usize) {
     say::text(b" ok");
@@ -20,21 +21,6 @@ fn picture(width: usize, height: usize, channels: usize, start: usize) {
 fn refused(n: u8) {
     say::refusal(n);
     say::text(b"\n");
-}
-
-// One byte more in a checksum.
-fn mixed(sum: usize, b: u8) -> usize {
-    (sum % 65521 * 31 + b as usize) % 65521
-}
-
-fn checksum(bytes: &[u8]) -> usize {
-    let mut sum = 0;
-    let mut i = 0;
-    while i < bytes.len() {
-        sum = mixed(sum, bytes[i]);
-        i += 1;
-    }
-    sum
 }
 
 fn show_again(bytes: &[u8]) {
@@ -67,7 +53,7 @@ fn show_given_back(still: &[u8], written: &[u8]) {
 }
 
 fn show_output(still: &[u8], written: &[u8]) {
-    say::number(checksum(written) as u64);
+    say::number(digest::checksum(written) as u64);
     say::text(b"\n");
     show_again(written);
     show_given_back(still, written);

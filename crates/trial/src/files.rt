@@ -1,0 +1,36 @@
+// The files of a folder.
+ghost use Rattle.io.specs.Counts.{Counts};
+
+// Puts the path of a file of a folder into a buffer, and answers its length: 0 where it does not fit.
+fn join(folder: &[u8], name: &[u8], path: &mut [u8]) -> usize
+    ensures { λ r. ⌜ Counts r (now (path .exit)) ⌝ }
+{
+    let n = folder.len();
+    let m = name.len();
+    if path.len() < n {
+        return 0;
+    }
+    if path.len() - n < m {
+        return 0;
+    }
+    buffers::copy_front(folder, path, n);
+    buffers::copy_front(name, &mut path[n..], m);
+    n + m
+}
+
+// Opens a file of a folder to be read: the answer is negative where there is no such file.
+fn open(folder: &[u8], name: &[u8]) -> i32 {
+    let mut path = io::buffer();
+    let n = join(folder, name, &mut path);
+    os::open_read(&path[..n])
+}
+
+// How many bytes of a file were read: 0 where there is no such file.
+pub fn load(folder: &[u8], name: &[u8], bytes: &mut [u8]) -> usize
+    ensures { λ r. ⌜ Counts r (now (bytes .exit)) ⌝ }
+{
+    let fd = open(folder, name);
+    let n = io::read_full(fd, bytes);
+    libc::close(fd);
+    n
+}
