@@ -126,7 +126,9 @@ fn main() {
         .map(|path| peers(&path))
         .unwrap_or_default();
     let table = Table { peers };
-    println!("Nanoseconds a sample, border nearest, grey. `=`: the same samples; `~`: not all the same.\n");
+    println!("Nanoseconds a sample, border nearest, grey: the best of several runs on one core, buffers warm and not cleared.");
+    println!("`=`: the same samples on this picture; `~`: not all the same.");
+    println!("Plain Rust does the same arithmetic throughout, OpenCV and SciPy in boxes and ranks; in stages of weights theirs is only similar.\n");
     println!("| work             | size     |   library | plain Rust |  ratio |     OpenCV |      SciPy |");
     println!("|------------------|----------|----------:|-----------:|-------:|-----------:|-----------:|");
     for (work, recipe) in recipes() {

@@ -72,8 +72,7 @@ fn answer<T>(number: u32, values: T) -> Result<T, Refusal> {
 /// Read a whole P5 or P6 file.
 pub fn read_still(bytes: &[u8]) -> Result<Still, Refusal> {
     let mut result = [0; 4];
-    // SAFETY: each pointer is of a reference, with the length of its slice.
-    let number = unsafe { raw::hejslopi_read_still(bytes.as_ptr(), bytes.len(), &mut result) };
+    let number = raw::read_still(bytes, &mut result);
     let [width, height, channels, raster_start] = answer(number, result)?.map(|n| n as usize);
     Ok(Still {
         width,
@@ -92,19 +91,7 @@ pub fn write_still_into(
     out: &mut [u8],
 ) -> Result<usize, Refusal> {
     let mut result = [0; 1];
-    // SAFETY: each pointer is of a reference, with the length of its slice; `&mut` references do not overlap.
-    let number = unsafe {
-        raw::hejslopi_write_still(
-            width,
-            height,
-            channels,
-            raster.as_ptr(),
-            raster.len(),
-            out.as_mut_ptr(),
-            out.len(),
-            &mut result,
-        )
-    };
+    let number = raw::write_still([width, height, channels], raster, out, &mut result);
     Ok(answer(number, result)?[0] as usize)
 }
 
@@ -124,8 +111,7 @@ pub fn write_still(
 /// Read a recipe.
 pub fn read_recipe(bytes: &[u8]) -> Result<Recipe, Refusal> {
     let mut result = [0; 2];
-    // SAFETY: each pointer is of a reference, with the length of its slice.
-    let number = unsafe { raw::hejslopi_read_recipe(bytes.as_ptr(), bytes.len(), &mut result) };
+    let number = raw::read_recipe(bytes, &mut result);
     let [stages, tolerance] = answer(number, result)?;
     Ok(Recipe {
         stages: stages as usize,
@@ -144,26 +130,7 @@ pub fn filter_plane_into(
     out: &mut [u8],
 ) -> Result<u64, Refusal> {
     let mut result = [0; 1];
-    // SAFETY: each pointer is of a reference, with the length of its slice; `&mut` references do not overlap.
-    let number = unsafe {
-        raw::hejslopi_filter_plane(
-            recipe.as_ptr(),
-            recipe.len(),
-            width,
-            height,
-            plane.as_ptr(),
-            plane.len(),
-            lent.work.as_mut_ptr(),
-            lent.work.len(),
-            lent.rows.as_mut_ptr(),
-            lent.rows.len(),
-            lent.sums.as_mut_ptr(),
-            lent.sums.len(),
-            out.as_mut_ptr(),
-            out.len(),
-            &mut result,
-        )
-    };
+    let number = raw::filter_plane(recipe, [width, height], plane, lent, out, &mut result);
     Ok(answer(number, result)?[0])
 }
 
@@ -191,24 +158,7 @@ pub fn filter_file_into(
     out: &mut [u8],
 ) -> Result<Picture, Refusal> {
     let mut result = [0; 5];
-    // SAFETY: each pointer is of a reference, with the length of its slice; `&mut` references do not overlap.
-    let number = unsafe {
-        raw::hejslopi_filter_file(
-            recipe.as_ptr(),
-            recipe.len(),
-            still.as_ptr(),
-            still.len(),
-            lent.work.as_mut_ptr(),
-            lent.work.len(),
-            lent.rows.as_mut_ptr(),
-            lent.rows.len(),
-            lent.sums.as_mut_ptr(),
-            lent.sums.len(),
-            out.as_mut_ptr(),
-            out.len(),
-            &mut result,
-        )
-    };
+    let number = raw::filter_file(recipe, still, lent, out, &mut result);
     let [width, height, channels, tolerance, length] = answer(number, result)?;
     Ok(Picture {
         width: width as usize,

@@ -1,4 +1,5 @@
-//! The functions of `include/hejslopi.h` as they are. That header says what each argument is and what a caller owes.
+//! The functions of `include/hejslopi.h` as they are, and each with slices in place of pointers and lengths. That header says what each argument is.
+use crate::Lent;
 
 extern "C" {
     pub fn hejslopi_read_still(bytes: *const u8, bytes_len: usize, result: *mut [u64; 4]) -> u32;
@@ -49,4 +50,83 @@ extern "C" {
         out_len: usize,
         result: *mut [u64; 5],
     ) -> u32;
+}
+
+// SAFETY, of all five below: each pointer is of a reference, with the length of its slice; `&mut` references do not overlap.
+
+pub fn read_still(bytes: &[u8], result: &mut [u64; 4]) -> u32 {
+    unsafe { hejslopi_read_still(bytes.as_ptr(), bytes.len(), result) }
+}
+
+pub fn write_still(
+    [width, height, channels]: [usize; 3],
+    raster: &[u8],
+    out: &mut [u8],
+    result: &mut [u64; 1],
+) -> u32 {
+    let (raster, raster_len) = (raster.as_ptr(), raster.len());
+    let (out, out_len) = (out.as_mut_ptr(), out.len());
+    unsafe {
+        hejslopi_write_still(
+            width, height, channels, raster, raster_len, out, out_len, result,
+        )
+    }
+}
+
+pub fn read_recipe(bytes: &[u8], result: &mut [u64; 2]) -> u32 {
+    unsafe { hejslopi_read_recipe(bytes.as_ptr(), bytes.len(), result) }
+}
+
+/// Calls a filtering function: what it reads first, then the lent buffers and the output.
+macro_rules! filtering {
+    ($function:ident($($first:expr),*), $lent:expr, $out:expr, $result:expr) => {{
+        let Lent { work, rows, sums } = $lent;
+        unsafe {
+            $function(
+                $($first,)*
+                work.as_mut_ptr(),
+                work.len(),
+                rows.as_mut_ptr(),
+                rows.len(),
+                sums.as_mut_ptr(),
+                sums.len(),
+                $out.as_mut_ptr(),
+                $out.len(),
+                $result,
+            )
+        }
+    }};
+}
+
+pub fn filter_plane(
+    recipe: &[u8],
+    [width, height]: [usize; 2],
+    plane: &[u8],
+    lent: Lent<'_>,
+    out: &mut [u8],
+    result: &mut [u64; 1],
+) -> u32 {
+    let (r, p) = (recipe.as_ptr(), plane.as_ptr());
+    filtering!(
+        hejslopi_filter_plane(r, recipe.len(), width, height, p, plane.len()),
+        lent,
+        out,
+        result
+    )
+}
+
+pub fn filter_file(
+    recipe: &[u8],
+    still: &[u8],
+    lent: Lent<'_>,
+    out: &mut [u8],
+    result: &mut [u64; 5],
+) -> u32 {
+    let (r, s) = (recipe.as_ptr(), still.as_ptr());
+    filtering!(
+        hejslopi_filter_file(r, recipe.len(), s, still.len()),
+        lent,
+        out,
+        result
+    )
 }

@@ -7,8 +7,8 @@ fn result<const N: usize>(rng: &mut Rng) -> Guarded<u64> {
     Guarded::new(N, || rng.next())
 }
 
-fn array<const N: usize>(guarded: &mut Guarded<u64>) -> *mut [u64; N] {
-    guarded.lend().as_mut_ptr().cast()
+fn array<const N: usize>(guarded: &mut Guarded<u64>) -> &mut [u64; N] {
+    guarded.lend().try_into().expect("N numbers were made")
 }
 
 /// What was returned and what stands in the array, held to an answer.
@@ -39,8 +39,7 @@ fn all(checks: &[(bool, &str)]) -> Result<(), String> {
 
 pub fn read_still(rng: &mut Rng, bytes: &[u8]) -> Result<u32, String> {
     let mut result = result::<4>(rng);
-    let number =
-        unsafe { raw::hejslopi_read_still(bytes.as_ptr(), bytes.len(), array(&mut result)) };
+    let number = raw::read_still(bytes, array(&mut result));
     let expected = reference::read_still(bytes).map(|p| {
         vec![
             p.width as u64,
@@ -56,8 +55,7 @@ pub fn read_still(rng: &mut Rng, bytes: &[u8]) -> Result<u32, String> {
 
 pub fn read_recipe(rng: &mut Rng, bytes: &[u8]) -> Result<u32, String> {
     let mut result = result::<2>(rng);
-    let number =
-        unsafe { raw::hejslopi_read_recipe(bytes.as_ptr(), bytes.len(), array(&mut result)) };
+    let number = raw::read_recipe(bytes, array(&mut result));
     let expected = reference::read_recipe(bytes)
         .map(|stages| vec![stages.len() as u64, reference::tolerance(&stages)]);
     told(number, &result, &expected)
@@ -75,19 +73,8 @@ pub fn write_still(
 ) -> Result<u32, String> {
     let mut result = result::<1>(rng);
     let mut out = Guarded::new(room, || rng.byte());
-    let number = unsafe {
-        let lent = out.lend();
-        raw::hejslopi_write_still(
-            width,
-            height,
-            channels,
-            raster.as_ptr(),
-            raster.len(),
-            lent.as_mut_ptr(),
-            lent.len(),
-            array(&mut result),
-        )
-    };
+    let sizes = [width, height, channels];
+    let number = raw::write_still(sizes, raster, out.lend(), array(&mut result));
     let expected = reference::write_still(width, height, channels, raster, room);
     let values = expected
         .as_ref()
@@ -128,6 +115,15 @@ impl Lent {
         }
     }
 
+    fn lend(&mut self) -> (hejslopi::Lent<'_>, &mut [u8]) {
+        let buffers = hejslopi::Lent {
+            work: self.work.lend(),
+            rows: self.rows.lend(),
+            sums: self.sums.lend(),
+        };
+        (buffers, self.out.lend())
+    }
+
     /// What the buffers hold after a call that wrote these bytes, or refused.
     fn held(&self, written: Result<&[u8], u32>) -> Result<(), String> {
         match written {
@@ -166,27 +162,8 @@ pub fn filter_plane(
 ) -> Result<u32, String> {
     let mut result = result::<1>(rng);
     let mut lent = Lent::new(rng, lengths);
-    let number = unsafe {
-        let (work, rows) = (lent.work.lend(), lent.rows.lend());
-        let (sums, out) = (lent.sums.lend(), lent.out.lend());
-        raw::hejslopi_filter_plane(
-            recipe.as_ptr(),
-            recipe.len(),
-            w,
-            h,
-            plane.as_ptr(),
-            plane.len(),
-            work.as_mut_ptr(),
-            work.len(),
-            rows.as_mut_ptr(),
-            rows.len(),
-            sums.as_mut_ptr(),
-            sums.len(),
-            out.as_mut_ptr(),
-            out.len(),
-            array(&mut result),
-        )
-    };
+    let (buffers, out) = lent.lend();
+    let number = raw::filter_plane(recipe, [w, h], plane, buffers, out, array(&mut result));
     let expected = reference::filter_plane(recipe, w, h, plane, lengths);
     let values = expected.as_ref().map(|e| vec![e.0]).map_err(|n| *n);
     told(number, &result, &values)
@@ -206,25 +183,8 @@ pub fn filter_file(
 ) -> Result<u32, String> {
     let mut result = result::<5>(rng);
     let mut lent = Lent::new(rng, lengths);
-    let number = unsafe {
-        let (work, rows) = (lent.work.lend(), lent.rows.lend());
-        let (sums, out) = (lent.sums.lend(), lent.out.lend());
-        raw::hejslopi_filter_file(
-            recipe.as_ptr(),
-            recipe.len(),
-            still.as_ptr(),
-            still.len(),
-            work.as_mut_ptr(),
-            work.len(),
-            rows.as_mut_ptr(),
-            rows.len(),
-            sums.as_mut_ptr(),
-            sums.len(),
-            out.as_mut_ptr(),
-            out.len(),
-            array(&mut result),
-        )
-    };
+    let (buffers, out) = lent.lend();
+    let number = raw::filter_file(recipe, still, buffers, out, array(&mut result));
     let expected = reference::filter_file(recipe, still, lengths);
     let values = expected
         .as_ref()
