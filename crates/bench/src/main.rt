@@ -16,10 +16,10 @@ fn compare(found: i32, wanted: i32) {
 
 // A stage of three ratios over 3 at -1 0 1 across, and 1 over 1 at 0 down: its weights across, against three that are wanted.
 fn show(stage: &[u8], a: i32, b: i32, c: i32) {
-    match recipe::stage::tests(stage) {
+    match recipe_stages::tests(stage) {
         Verdict::Refused(_) => say(b" refused"),
         Verdict::Passed => {
-            let read = recipe::stage::read_stage(stage);
+            let read = recipe_stages::read_stage(stage);
             let axis = read.across;
             let weights = axis.weights;
             compare(weights[0], a);

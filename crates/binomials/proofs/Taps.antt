@@ -14,7 +14,9 @@ use Rattle.lists.proofs.Tabulate.{entry-known, tabulate-ext}
 use Rattle.model.specs.Kernel.{tap, kernel, total, magnitude}
 use Rattle.model.specs.Binomial.{choose, binomial}
 use Rattle.model.proofs.Binomial.{binomial-rising, binomial-total}
-use Rattle.kernels.specs.Kernel.{offsetOf, numeratorOf, tapOf, kernelOf, Limits}
+use Rattle.stage_values.specs.Place.{offsetOf}
+use Rattle.numerators.specs.Numerator.{numeratorOf}
+use Rattle.kernels.specs.Kernel.{tapOf, kernelOf, Limits}
 
 -- the shift loses nothing
 pub power : (r : ℕ) → r ≤ 15 → 1 * 2 ^ (2 * r) % 18446744073709551616 ≡ 2 ^ (2 * r)

@@ -3,13 +3,13 @@ use Prim.Native.Nat.{ℕ}
 use mathlib.Core.Path.{_≡_, subst}
 use mathlib.Core.List.{List}
 use lib.IntN.{ℤ}
-use Rattle.netpbm.specs.declared.write.Written.{Written}
-use Rattle.netpbm.specs.Write.{Writes}
-use Rattle.filter.specs.declared.plane.Filtered.{Filtered}
-use Rattle.filter.specs.declared.file.File.{File}
-use Rattle.filter.specs.Plane as Plane
-use Rattle.filter.specs.File as File
-use Rattle.capi.specs.Numbers.{Told, Tells, writtenTold, planeTold, fileTold}
+use Rattle.answers.specs.declared.Written.{Written}
+use Rattle.still_writer.specs.Write.{Writes}
+use Rattle.answers.specs.declared.Filtered.{Filtered}
+use Rattle.answers.specs.declared.File.{File}
+use Rattle.plane_filter.specs.FiltersPlane as Plane
+use Rattle.file_filter.specs.FiltersFile as File
+use Rattle.told.specs.Numbers.{Told, Tells, writtenTold, planeTold, fileTold}
 use Rattle.capi.specs.Calls.{WritesStill, FiltersPlane, FiltersFile}
 
 -- equal answers are told alike

@@ -3,11 +3,13 @@ use Prim.Native.Nat.{ℕ}
 use mathlib.Core.List.{List}
 use lib.ListN.{length}
 use lib.IntN.{ℤ}
-use Rattle.netpbm.specs.Write.{writtenOf, Writes}
-use Rattle.filter.specs.Room.{lent}
-use Rattle.filter.specs.Plane as Plane
-use Rattle.filter.specs.File as File
-use Rattle.capi.specs.Numbers.{Tells, writtenTold, planeTold, fileTold}
+use Rattle.still_writer.specs.Write.{writtenOf, Writes}
+use Rattle.room.specs.Room.{lent}
+use Rattle.filter_answers.specs.PlaneAnswer.{planeAnswer}
+use Rattle.filter_answers.specs.FileAnswer.{fileAnswer}
+use Rattle.plane_filter.specs.FiltersPlane as Plane
+use Rattle.file_filter.specs.FiltersFile as File
+use Rattle.told.specs.Numbers.{Tells, writtenTold, planeTold, fileTold}
 
 -- `write_still`, for the answer that its definition gives
 pub record WritesStill (W H c : ℕ) (raster out out′ array array′ : List ℕ) (r : ℕ) : Type 0 where
@@ -16,10 +18,10 @@ pub record WritesStill (W H c : ℕ) (raster out out′ array array′ : List �
 
 -- `filter_plane`, for the answer that its definition gives
 pub record FiltersPlane (recipe : List ℕ) (W H : ℕ) (plane work work′ : List ℕ) (rows rows′ : List ℤ) (sums sums′ out out′ array array′ : List ℕ) (r : ℕ) : Type 0 where
-  pub filtered : Plane.FiltersPlane recipe W H plane work work′ rows rows′ sums sums′ out out′ (Plane.planeAnswer recipe W H (length plane) (lent (length work) (length rows) (length sums) (length out)))
-  pub told : Tells (planeTold (Plane.planeAnswer recipe W H (length plane) (lent (length work) (length rows) (length sums) (length out)))) array array′ r
+  pub filtered : Plane.FiltersPlane recipe W H plane work work′ rows rows′ sums sums′ out out′ (planeAnswer recipe W H (length plane) (lent (length work) (length rows) (length sums) (length out)))
+  pub told : Tells (planeTold (planeAnswer recipe W H (length plane) (lent (length work) (length rows) (length sums) (length out)))) array array′ r
 
 -- `filter_file`, for the answer that its definition gives
 pub record FiltersFile (recipe still work work′ : List ℕ) (rows rows′ : List ℤ) (sums sums′ out out′ array array′ : List ℕ) (r : ℕ) : Type 0 where
-  pub filtered : File.FiltersFile recipe still work work′ rows rows′ sums sums′ out out′ (File.fileAnswer recipe still (lent (length work) (length rows) (length sums) (length out)))
-  pub told : Tells (fileTold (File.fileAnswer recipe still (lent (length work) (length rows) (length sums) (length out)))) array array′ r
+  pub filtered : File.FiltersFile recipe still work work′ rows rows′ sums sums′ out out′ (fileAnswer recipe still (lent (length work) (length rows) (length sums) (length out)))
+  pub told : Tells (fileTold (fileAnswer recipe still (lent (length work) (length rows) (length sums) (length out)))) array array′ r

@@ -1,3 +1,2 @@
--- What a caller in C or Rust is told, definitions only.
-pub mod Numbers
+-- The calls for C and Rust, definitions only.
 pub mod Calls

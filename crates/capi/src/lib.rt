@@ -1,16 +1,7 @@
 // The five calls for C and Rust. Each gives the refusal's number, or 0 and its numbers in a lent array.
-use filter::file;
-use filter::file::File;
-use filter::plane;
-use filter::plane::Filtered;
-use netpbm::read;
-use netpbm::read::Still;
-use netpbm::write;
-use netpbm::write::Written;
-use recipe::Recipe;
-ghost use Rattle.netpbm.specs.Read.{stillOf};
+ghost use Rattle.still_reader.specs.Read.{stillOf};
 ghost use Rattle.recipe.specs.Recipe.{recipeOf};
-ghost use Rattle.capi.specs.Numbers.{Tells, stillTold, recipeTold};
+ghost use Rattle.told.specs.Numbers.{Tells, stillTold, recipeTold};
 ghost use Rattle.capi.specs.Calls.{WritesStill, FiltersPlane, FiltersFile};
 
 // Read a still: width, height, channels, and the byte place where its raster starts.
@@ -18,18 +9,7 @@ ghost use Rattle.capi.specs.Calls.{WritesStill, FiltersPlane, FiltersFil
 pub extern "C" fn hejslopi_read_still(bytes: &[u8], result: &mut [u64; 4]) -> u32
     ensures { λ r. ⌜ Tells (stillTold (stillOf (now (bytes .entry)))) (now (result .entry)) (now (result .exit)) r ⌝ }
 {
-    match read::read_still(bytes) {
-        Still::Refused(n) => n as u32,
-        Still::Picture {
-            width,
-            height,
-            channels,
-            start,
-        } => {
-            *result = [width as u64, height as u64, channels as u64, start as u64];
-            0
-        }
-    }
+    told::still(still_reader::read_still(bytes), result)
 }
 
 // Write a still: its length.
@@ -44,13 +24,10 @@ pub extern "C" fn hejslopi_write_still(
 ) -> u32
     ensures { λ r. ⌜ WritesStill width height channels (now (raster .entry)) (now (out .entry)) (now (out .exit)) (now (result .entry)) (now (result .exit)) r ⌝ }
 {
-    match write::write_still(width, height, channels, raster, out) {
-        Written::Refused(n) => n as u32,
-        Written::Length(len) => {
-            *result = [len as u64];
-            0
-        }
-    }
+    told::written(
+        still_writer::write_still(width, height, channels, raster, out),
+        result,
+    )
 }
 
 // Read a recipe: S and T.
@@ -58,13 +35,7 @@ pub extern "C" fn hejslopi_write_still(
 pub extern "C" fn hejslopi_read_recipe(bytes: &[u8], result: &mut [u64; 2]) -> u32
     ensures { λ r. ⌜ Tells (recipeTold (recipeOf (now (bytes .entry)))) (now (result .entry)) (now (result .exit)) r ⌝ }
 {
-    match recipe::read_recipe(bytes) {
-        Recipe::Refused(n) => n as u32,
-        Recipe::Stages { count, tolerance } => {
-            *result = [count as u64, tolerance];
-            0
-        }
-    }
+    told::recipe(recipe::read_recipe(bytes), result)
 }
 
 // Filter a plane by a one-stage recipe: T.
@@ -82,13 +53,10 @@ pub extern "C" fn hejslopi_filter_plane(
 ) -> u32
     ensures { λ r. ⌜ FiltersPlane (now (recipe .entry)) width height (now (plane .entry)) (now (work .entry)) (now (work .exit)) (now (rows .entry)) (now (rows .exit)) (now (sums .entry)) (now (sums .exit)) (now (out .entry)) (now (out .exit)) (now (result .entry)) (now (result .exit)) r ⌝ }
 {
-    match plane::filter_plane(recipe, width, height, plane, work, rows, sums, out) {
-        Filtered::Refused(n) => n as u32,
-        Filtered::Tolerance(t) => {
-            *result = [t];
-            0
-        }
-    }
+    told::plane(
+        plane_filter::filter_plane(recipe, width, height, plane, work, rows, sums, out),
+        result,
+    )
 }
 
 // Filter a file: width, height, channels, T and the output's length.
@@ -104,23 +72,8 @@ pub extern "C" fn hejslopi_filter_file(
 ) -> u32
     ensures { λ r. ⌜ FiltersFile (now (recipe .entry)) (now (still .entry)) (now (work .entry)) (now (work .exit)) (now (rows .entry)) (now (rows .exit)) (now (sums .entry)) (now (sums .exit)) (now (out .entry)) (now (out .exit)) (now (result .entry)) (now (result .exit)) r ⌝ }
 {
-    match file::filter_file(recipe, still, work, rows, sums, out) {
-        File::Refused(n) => n as u32,
-        File::Picture {
-            width,
-            height,
-            channels,
-            tolerance,
-            len,
-        } => {
-            *result = [
-                width as u64,
-                height as u64,
-                channels as u64,
-                tolerance,
-                len as u64,
-            ];
-            0
-        }
-    }
+    told::file(
+        file_filter::filter_file(recipe, still, work, rows, sums, out),
+        result,
+    )
 }

@@ -1,12 +1,8 @@
-// The two filtering calls on buffers that hold junk.
-use crate::answers;
-use crate::answers::Answer;
-use filter::file;
-use filter::plane;
-use trial::junk;
-use trial::lending::Lent;
-use trial::same;
-use trial::say;
+// One filtering call on buffers that hold junk.
+use answers::File;
+use answers::Filtered;
+use room::Lent;
+use trial::outcome;
 
 // Which call is made on some bytes: on a file's, or on the samples of a plane with these sides.
 pub enum Asked {
@@ -14,11 +10,18 @@ pub enum Asked {
     Plane(usize, usize),
 }
 
-// An answer, and whether the output and what was to stay are as they should be.
-pub struct Outcome {
-    pub answer: Answer,
-    pub output: bool,
-    pub kept: bool,
+// A plane is a picture of one channel, whose output is as long as its samples.
+fn as_file(width: usize, height: usize, len: usize, answer: Filtered) -> File {
+    match answer {
+        Filtered::Refused(n) => File::Refused(n),
+        Filtered::Tolerance(tolerance) => File::Picture {
+            width,
+            height,
+            channels: 1,
+            tolerance,
+            len,
+        },
+    }
 }
 
 fn ask(
@@ -29,20 +32,20 @@ fn ask(
     rows: &mut [i32],
     sums: &mut [u32],
     out: &mut [u8],
-) -> Answer {
+) -> File {
     match asked {
-        Asked::File => answers::of_file(file::filter_file(recipe, bytes, work, rows, sums, out)),
-        Asked::Plane(w, h) => answers::of_plane(
+        Asked::File => file_filter::filter_file(recipe, bytes, work, rows, sums, out),
+        Asked::Plane(w, h) => as_file(
             w,
             h,
             bytes.len(),
-            plane::filter_plane(recipe, w, h, bytes, work, rows, sums, out),
+            plane_filter::filter_plane(recipe, w, h, bytes, work, rows, sums, out),
         ),
     }
 }
 
-// Lends the fronts of four buffers.
-fn ask_lending(
+// Lends the fronts of four buffers. What the buffers do not have is refused by 0, which no call answers.
+fn lend(
     lent: Lent,
     asked: Asked,
     recipe: &[u8],
@@ -51,7 +54,7 @@ fn ask_lending(
     rows: &mut [i32],
     sums: &mut [u32],
     out: &mut [u8],
-) -> Answer {
+) -> File {
     let a = lent.works;
     let b = lent.rows;
     let c = lent.sums;
@@ -67,93 +70,40 @@ fn ask_lending(
             &mut out[..d],
         );
     }
-    answers::refused(0)
+    File::Refused(0)
 }
 
-// After a refusal all four buffers stay. Else the output is as wanted, and its tail stays.
-fn left(
-    answer: Answer,
+fn call_on(
+    lent: Lent,
+    asked: Asked,
+    recipe: &[u8],
+    bytes: &[u8],
     wanted: &[u8],
-    work: &[u8],
-    rows: &[i32],
-    sums: &[u32],
-    out: &[u8],
-) -> Outcome {
-    if answer.refusal != 0 {
-        return Outcome {
-            answer,
-            output: true,
-            kept: junk::all_kept(work, rows, sums, out),
-        };
-    }
-    Outcome {
-        answer,
-        output: same::front(out, wanted) && answer.len == wanted.len(),
-        kept: junk::bytes_kept(out, wanted.len()),
-    }
+    work: &mut [u8],
+    rows: &mut [i32],
+    sums: &mut [u32],
+    out: &mut [u8],
+) {
+    junk::fill(work, rows, sums, out);
+    let answer = lend(lent, asked, recipe, bytes, work, rows, sums, out);
+    outcome::show(answer, wanted, work, rows, sums, out);
 }
 
-// One call, and what it left.
-fn tried(asked: Asked, recipe: &[u8], bytes: &[u8], wanted: &[u8], lent: Lent) -> Outcome {
+// One call, its answer and what it left.
+pub fn call(lent: Lent, asked: Asked, recipe: &[u8], bytes: &[u8], wanted: &[u8]) {
     let mut work = [0u8; 32768];
     let mut rows = [0i32; 16384];
     let mut sums = [0u32; 16384];
     let mut out = [0u8; 65536];
-    junk::fill_bytes(&mut work);
-    junk::fill_rows(&mut rows);
-    junk::fill_sums(&mut sums);
-    junk::fill_bytes(&mut out);
-    let answer = ask_lending(
+    call_on(
         lent,
         asked,
         recipe,
         bytes,
+        wanted,
         &mut work,
         &mut rows,
         &mut sums,
         &mut out,
     );
-    left(answer, wanted, &work, &rows, &sums, &out)
-}
-
-// One call, its answer and what it left.
-pub fn show(asked: Asked, recipe: &[u8], bytes: &[u8], wanted: &[u8], lent: Lent) -> Outcome {
-    let t = tried(asked, recipe, bytes, wanted, lent);
-    let answer = t.answer;
-    answers::show(answer);
-    if answer.refusal != 0 {
-        say::text(b", buffers");
-    } else {
-        say::text(b", output");
-        say::same(t.output);
-        say::text(b", tail");
-    }
-    say::kept(t.kept);
-    t
-}
-
-// Whether a call answers and leaves what it should.
-pub fn agrees(
-    asked: Asked,
-    recipe: &[u8],
-    bytes: &[u8],
-    answer: Answer,
-    wanted: &[u8],
-    lent: Lent,
-) -> bool {
-    let t = show(asked, recipe, bytes, wanted, lent);
-    let line = answers::same(t.answer, answer);
-    say::text(b", line");
-    say::same(line);
-    say::text(b"\n");
-    line && t.output && t.kept
-}
-
-// Whether a call is refused by this number, and alters nothing.
-pub fn refuses(asked: Asked, recipe: &[u8], bytes: &[u8], n: usize, lent: Lent) -> bool {
-    let t = tried(asked, recipe, bytes, b"", lent);
-    let answer = t.answer;
-    answers::show(answer);
-    say::kept(t.kept);
-    answer.refusal == n && t.kept
 }

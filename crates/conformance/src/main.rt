@@ -1,98 +1,123 @@
-// Calls the library on the files that its arguments name, and prints what the calls answer.
-// An argument is the path of a still, of a recipe (it ends in `recipe`) or of a folder (it ends in `/`). A folder's still is filtered by its recipe, and the
-// answer and the output are compared with its files `line` and `out`. The numbers after a folder say how much must be lent at least: work bytes, row
-// values, sums and output bytes. Without them, or where they are 0, only the program's own lengths are tried.
-mod answers;
+// Makes the call that each argument describes on the files that it names, and prints what the call answers and leaves.
+// `PATH still` reads a still, writes it and filters it; `PATH recipe` reads a recipe. `FOLDER file LENT` filters a folder's `still` by its `recipe`, and
+// `FOLDER plane LENT W H FROM SKIP` what that still has from place FROM on. The output has to be the folder's `out`, without its first SKIP bytes.
+// LENT are four lengths: work bytes, row values, sums and output bytes.
 mod calls;
-mod cases;
-mod recipes;
-mod stills;
+mod giving_back;
 
-use trial::lending;
+use answers::Recipe;
+use calls::Asked;
+use room::Lent;
+use trial::files;
 use trial::say;
 use trial::words;
-ghost use Prim.Native.Nat.{_≤_};
 
-// What an argument was, and of a folder whether all its calls agreed.
-enum Shown {
-    File,
-    Case(bool),
-}
-
-// The path of a folder ends in `/`, and of the files only that of a recipe in `e`.
-fn ends_in(path: &[u8], b: u8) -> bool {
-    if path.len() < 1 {
-        return false;
+fn show_recipe(bytes: &[u8]) {
+    match recipe::read_recipe(bytes) {
+        Recipe::Refused(n) => say::refusal(n),
+        Recipe::Stages { count, tolerance } => {
+            say::text(b" ok");
+            say::number(count as u64);
+            say::number(tolerance);
+        }
     }
-    path[path.len() - 1] == b
+    say::end();
 }
 
-fn show_file(path: &[u8]) {
+fn show_still(still: &[u8]) {
+    let mut out = io::large_buffer();
+    let n = rereading::reread(still, &mut out);
+    if n > 0 {
+        rereading::show_written(&out[..n]);
+        giving_back::show(still, &out[..n]);
+    }
+}
+
+fn show_bytes(kind: u8, path: &[u8]) {
     let mut bytes = io::large_buffer();
-    let fd = os::open_read(path);
-    if fd < 0 {
-        say::text(b"  no file\n");
+    let n = files::load(path, b"", &mut bytes);
+    if kind == b's' {
+        show_still(&bytes[..n]);
+    } else {
+        show_recipe(&bytes[..n]);
+    }
+}
+
+fn filter_part(
+    lent: Lent,
+    asked: Asked,
+    recipe: &[u8],
+    still: &[u8],
+    from: usize,
+    out: &[u8],
+    skip: usize,
+) {
+    if from <= still.len() {
+        if skip <= out.len() {
+            calls::call(lent, asked, recipe, &still[from..], &out[skip..]);
+        }
+    }
+}
+
+fn filter(lent: Lent, asked: Asked, folder: &[u8], from: usize, skip: usize) {
+    let mut recipe = io::buffer();
+    let mut still = io::large_buffer();
+    let mut out = io::large_buffer();
+    let a = files::recipe(folder, &mut recipe);
+    let b = files::still(folder, &mut still);
+    let c = files::output(folder, &mut out);
+    filter_part(
+        lent,
+        asked,
+        &recipe[..a],
+        &still[..b],
+        from,
+        &out[..c],
+        skip,
+    );
+}
+
+fn asked(text: &[u8], kind: u8) -> Asked {
+    if kind == b'p' {
+        return Asked::Plane(words::number(text, 6), words::number(text, 7));
+    }
+    Asked::File
+}
+
+fn lent(text: &[u8]) -> Lent {
+    Lent {
+        works: words::number(text, 2),
+        rows: words::number(text, 3),
+        sums: words::number(text, 4),
+        out: words::number(text, 5),
+    }
+}
+
+// A path, the kind of the call by its first letter, and numbers.
+fn make(text: &[u8]) {
+    let end = words::first(text);
+    let kind = words::letter(text, end);
+    if kind == b's' || kind == b'r' {
+        show_bytes(kind, &text[..end]);
         return;
     }
-    let n = io::read_full(fd, &mut bytes);
-    libc::close(fd);
-    if ends_in(path, b'e') {
-        recipes::show(&bytes[..n]);
-    } else {
-        stills::show(&bytes[..n]);
-    }
+    let from = words::number(text, 8);
+    let skip = words::number(text, 9);
+    filter(lent(text), asked(text, kind), &text[..end], from, skip);
 }
 
-fn show(path: &[u8], least: lending::Lent) -> Shown {
-    say::text(path);
-    say::text(b"\n");
-    if ends_in(path, b'/') {
-        return Shown::Case(cases::show(path, least));
-    }
-    show_file(path);
-    Shown::File
-}
-
-fn show_argument(i: usize) -> Shown {
+fn show_argument(i: usize) {
     let mut text = io::buffer();
     let n = os::arg(i, &mut text);
-    let least = lending::after_path(&text[..n]);
-    let end = words::first(&text[..n]);
-    show(&text[..end], least)
-}
-
-fn case_count(shown: Shown) -> usize
-    ensures { λ r. ⌜ r ≤ 1 ⌝ }
-{
-    match shown {
-        Shown::File => 0,
-        Shown::Case(_) => 1,
-    }
-}
-
-fn agreed_count(shown: Shown) -> usize
-    ensures { λ r. ⌜ r ≤ 1 ⌝ }
-{
-    match shown {
-        Shown::File => 0,
-        Shown::Case(agreed) => { if agreed { 1 } else { 0 } }
-    }
+    say::text(&text[..n]);
+    make(&text[..n]);
 }
 
 fn main() {
     let count = os::arg_count();
-    let mut cases: usize = 0;
-    let mut agreed: usize = 0;
     let mut i = 1;
     while i < count {
-        let shown = show_argument(i);
-        cases += case_count(shown);
-        agreed += agreed_count(shown);
+        show_argument(i);
         i += 1;
     }
-    say::text(b"cases");
-    say::number(cases as u64);
-    say::text(b" agreed");
-    say::number(agreed as u64);
-    say::text(b"\n");
 }

@@ -1,2 +1,3 @@
--- The frame rule on places held 15 too large, definitions only.
+-- Frames and the samples that the frame rule supplies, definitions only. Read the files in this order.
+pub mod Framed
 pub mod Padded

@@ -1,149 +1,88 @@
 // The frame rule in one place: rows with the samples that it supplies on both sides, so that no loop above tests for the border.
-use recipe::stage::Border;
+use stage_values::Border;
 ghost use mathlib.Core.Path.{_≡_};
 ghost use mathlib.Core.List.{_++_};
-ghost use Prim.Native.Nat.{_+_, _*_, _≤_, _<_};
+ghost use Prim.Native.Nat.{_+_, _≤_};
 ghost use lib.ListN.{length, drop};
 ghost use Rattle.lists.specs.Tabulate.{tabulate};
-ghost use Rattle.model.specs.Border.{constant, nearest, mirror, wrap, supply};
-ghost use Rattle.model.specs.Plane.{planeOf};
-ghost use Rattle.kernels.specs.Kernel.{offsetOf};
-ghost use Rattle.recipe.specs.Stands.{borderIs};
-ghost use Rattle.frame.specs.Padded.{placeOf, rowPick, padded, Frame};
+ghost use Rattle.frame.specs.Framed.{Framed};
+ghost use Rattle.frame.specs.Padded.{rowSample, padded};
 
 // How far an offset reaches. Places are held this much too large, so they are at least 0.
 pub const REACH: usize = 15;
 
-// The index itself, or n outside.
-fn inside(n: usize, x: usize) -> usize
-    requires { ⌜ x ≤ 16384 ⌝ }
-    ensures { λ r. ⌜ r ≡ placeOf n (supply constant n (offsetOf x)) ⌝ }
-{
-    if x < 15 {
-        return n;
-    }
-    if x - 15 < n { x - 15 } else { n }
-}
-
-// The closest index inside.
-fn closest(n: usize, x: usize) -> usize
-    requires { ⌜ (1 ≤ n) × (x ≤ 16384) ⌝ }
-    ensures { λ r. ⌜ r ≡ placeOf n (supply nearest n (offsetOf x)) ⌝ }
-{
-    if x < 15 {
-        return 0;
-    }
-    if x - 15 < n { x - 15 } else { n - 1 }
-}
-
-// Index -k is at place 15 - k and becomes k - 1; place x past the end becomes 2n + 14 - x.
-fn mirrored(n: usize, x: usize) -> usize
-    requires { ⌜ (1 ≤ n) × (n ≤ 8192) × (x ≤ 16384) ⌝ }
-    ensures { λ r. ⌜ r ≡ placeOf n (supply mirror n (offsetOf x)) ⌝ }
-{
-    if x < 15 {
-        let k = 14 - x;
-        return if k < n { k } else { n - 1 };
-    }
-    if x - 15 < n {
-        return x - 15;
-    }
-    let end = 2 * n + 14;
-    if x < end { end - x } else { 0 }
-}
-
-// 15 (n - 1) is -15 and 15 n more, so the sum is x - 15 modulo n.
-fn wrapped(n: usize, x: usize) -> usize
-    requires { ⌜ (1 ≤ n) × (n ≤ 8192) × (x ≤ 16384) ⌝ }
-    ensures { λ r. ⌜ r ≡ placeOf n (supply wrap n (offsetOf x)) ⌝ }
-{
-    (x + 15 * (n - 1)) % n
-}
-
-// The index inside an axis of length n that is supplied at place x, or n for the border value.
-pub fn place(border: Border, n: usize, x: usize) -> usize
-    requires { ⌜ (1 ≤ n) × (n ≤ 8192) × (x ≤ 16384) ⌝ }
-    ensures { λ r. ⌜ r ≡ placeOf n (supply (borderIs border) n (offsetOf x)) ⌝ }
-{
-    match border {
-        Border::Constant => inside(n, x),
-        Border::Nearest => closest(n, x),
-        Border::Mirror => mirrored(n, x),
-        Border::Wrap => wrapped(n, x),
-    }
+// A frame's size, and what is supplied outside it.
+pub struct Frame {
+    pub width: usize,
+    pub height: usize,
+    pub border: Border,
+    pub value: u8,
 }
 
 // The sample of a row that is supplied at place x.
-fn sample(row: &[u8], w: usize, border: Border, value: u8, x: usize) -> u8
-    requires { ⌜ (1 ≤ w) × (w ≤ 8192) × (w ≤ length (now row)) × (x ≤ 16384) ⌝ }
-    ensures { λ r. ⌜ r ≡ rowPick value (now (row .entry)) (supply (borderIs border) w (offsetOf x)) ⌝ }
+fn sample(frame: Frame, row: &[u8], x: usize) -> u8
+    requires { ⌜ (1 ≤ frame .width) × (frame .width ≤ 8192) × (frame .width ≤ length (now row)) × (x ≤ 16384) ⌝ }
+    ensures { λ r. ⌜ r ≡ rowSample frame (now (row .entry)) x ⌝ }
 {
-    let u = place(border, w, x);
-    if u < w { row[u] } else { value }
+    let border = frame.border;
+    let w = frame.width;
+    let u = places::place(border, w, x);
+    if u < w { row[u] } else { frame.value }
 }
 
 // The 15 samples of a row from place `from` on.
-fn side(row: &[u8], w: usize, border: Border, value: u8, from: usize, dst: &mut [u8])
-    requires { ⌜ (1 ≤ w) × (w ≤ 8192) × (w ≤ length (now row)) × (from ≤ 8300) × (15 ≤ length (now dst)) ⌝ }
-    ensures { λ _. ⌜ now (dst .exit) ≡ tabulate (λ i. rowPick value (now (row .entry)) (supply (borderIs border) w (offsetOf (from + i)))) 15 ++ drop 15 (now (dst .entry)) ⌝ }
+fn side(frame: Frame, row: &[u8], from: usize, dst: &mut [u8])
+    requires { ⌜ (1 ≤ frame .width) × (frame .width ≤ 8192) × (frame .width ≤ length (now row)) × (from ≤ 8300) × (15 ≤ length (now dst)) ⌝ }
+    ensures { λ _. ⌜ now (dst .exit) ≡ tabulate (λ i. rowSample frame (now (row .entry)) (from + i)) 15 ++ drop 15 (now (dst .entry)) ⌝ }
 {
     let mut i = 0;
     while i < 15 {
-        dst[i] = sample(row, w, border, value, from + i);
+        dst[i] = sample(frame, row, from + i);
         i += 1;
     }
 }
 
 // A row of the frame with the samples on both sides.
-fn row_and_sides(row: &[u8], w: usize, border: Border, value: u8, dst: &mut [u8])
-    requires { ⌜ (1 ≤ w) × (w ≤ 8192) × (w ≤ length (now row)) × (w + 30 ≤ length (now dst)) ⌝ }
-    ensures { λ _. ⌜ now (dst .exit) ≡ tabulate (λ x. rowPick value (now (row .entry)) (supply (borderIs border) w (offsetOf x))) (w + 30) ++ drop (w + 30) (now (dst .entry)) ⌝ }
+fn row_and_sides(frame: Frame, row: &[u8], dst: &mut [u8])
+    requires { ⌜ (1 ≤ frame .width) × (frame .width ≤ 8192) × (frame .width ≤ length (now row)) × (frame .width + 30 ≤ length (now dst)) ⌝ }
+    ensures { λ _. ⌜ now (dst .exit) ≡ tabulate (rowSample frame (now (row .entry))) (frame .width + 30) ++ drop (frame .width + 30) (now (dst .entry)) ⌝ }
 {
-    side(row, w, border, value, 0, dst);
+    let w = frame.width;
+    side(frame, row, 0, dst);
     buffers::copy_front(row, &mut dst[REACH..], w);
     let end = REACH + w;
-    side(row, w, border, value, end, &mut dst[end..]);
+    side(frame, row, end, &mut dst[end..]);
 }
 
 // Row y - 15 of a frame, with 15 samples more on each side, into the front of dst.
-pub fn padded_row(
-    plane: &[u8],
-    w: usize,
-    h: usize,
-    border: Border,
-    value: u8,
-    y: usize,
-    dst: &mut [u8],
-)
-    requires { ⌜ Frame w h (now plane) × (y ≤ 16384) × (w + 30 ≤ length (now dst)) ⌝ }
-    ensures { λ _. ⌜ now (dst .exit) ≡ tabulate (λ x. padded (borderIs border) value w h (planeOf w (now (plane .entry))) x y) (w + 30) ++ drop (w + 30) (now (dst .entry)) ⌝ }
+pub fn padded_row(frame: Frame, plane: &[u8], y: usize, dst: &mut [u8])
+    requires { ⌜ Framed frame (now plane) × (y ≤ 16384) × (frame .width + 30 ≤ length (now dst)) ⌝ }
+    ensures { λ _. ⌜ now (dst .exit) ≡ tabulate (λ x. padded frame (now (plane .entry)) x y) (frame .width + 30) ++ drop (frame .width + 30) (now (dst .entry)) ⌝ }
 {
-    let v = place(border, h, y);
+    let border = frame.border;
+    let w = frame.width;
+    let h = frame.height;
+    let v = places::place(border, h, y);
     if v < h {
         let at = v * w;
-        row_and_sides(&plane[at..], w, border, value, dst);
+        row_and_sides(frame, &plane[at..], dst);
     } else {
-        buffers::fill_front(dst, w + 30, value);
+        buffers::fill_front(dst, w + 30, frame.value);
     }
 }
 
 // The sample supplied at place x, y.
-pub fn sample_at(
-    plane: &[u8],
-    w: usize,
-    h: usize,
-    border: Border,
-    value: u8,
-    x: usize,
-    y: usize,
-) -> u8
-    requires { ⌜ Frame w h (now plane) × (x ≤ 16384) × (y ≤ 16384) ⌝ }
-    ensures { λ r. ⌜ r ≡ padded (borderIs border) value w h (planeOf w (now (plane .entry))) x y ⌝ }
+pub fn sample_at(frame: Frame, plane: &[u8], x: usize, y: usize) -> u8
+    requires { ⌜ Framed frame (now plane) × (x ≤ 16384) × (y ≤ 16384) ⌝ }
+    ensures { λ r. ⌜ r ≡ padded frame (now (plane .entry)) x y ⌝ }
 {
-    let v = place(border, h, y);
+    let border = frame.border;
+    let w = frame.width;
+    let h = frame.height;
+    let v = places::place(border, h, y);
     if v < h {
         let at = v * w;
-        return sample(&plane[at..], w, border, value, x);
+        return sample(frame, &plane[at..], x);
     }
-    value
+    frame.value
 }

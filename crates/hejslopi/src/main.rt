@@ -1,9 +1,6 @@
 // Filters the file `still` by the file `recipe` into the file `out`, and prints one line: `ok W H channels T` or `no N`.
-mod disk;
-
-use disk::Found;
-use filter::file;
-use filter::file::File;
+use answers::File;
+use disk_tests::Found;
 use libc::STDOUT_FILENO;
 
 fn say(text: &[u8]) {
@@ -36,7 +33,7 @@ fn filter(recipe: &[u8], still: &[u8]) {
     let mut rows = [0i32; 16384];
     let mut sums = [0u32; 16384];
     let mut out = [0u8; 65536];
-    match file::filter_file(recipe, still, &mut work, &mut rows, &mut sums, &mut out) {
+    match file_filter::filter_file(recipe, still, &mut work, &mut rows, &mut sums, &mut out) {
         File::Refused(n) => refused(n),
         File::Picture {
             width,
@@ -60,7 +57,7 @@ fn main() {
     let mut recipe = [0u8; 4097];
     let s = disk::load(b"still", &mut still);
     let r = disk::load(b"recipe", &mut recipe);
-    match disk::tested(s, r) {
+    match disk_tests::tested(s, r) {
         Found::Refused(n) => refused(n),
         Found::Lengths(a, b) => filter(&recipe[..b], &still[..a]),
     }

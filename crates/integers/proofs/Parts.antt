@@ -106,3 +106,11 @@ abs-mul x y = ap2 (abs-parts (x *ℤ y)) (mul-parts x y)
   where
     ap2 : natAbs (x *ℤ y) ≡ posPart (x *ℤ y) + negPart (x *ℤ y) → Product x y → natAbs (x *ℤ y) ≡ natAbs x * natAbs y
     ap2 e m = rw (abs-parts x, abs-parts y) (omega (arith, e, m))
+
+pub abs-diff : (a b : ℕ) → natAbs (pos a -ℤ pos b) ≡ (a - b) + (b - a)
+abs-diff a zero = omega arith
+abs-diff a (suc b) = go (ltb a (suc b)) (ltb→lt a (suc b)) (nltb→le a (suc b))
+  where
+    go : (t : Bool) → (T t → a < suc b) → (T (not t) → suc b ≤ a) → natAbs (cond t (negsuc (suc b - suc a)) (pos (a - suc b))) ≡ (a - suc b) + (suc b - a)
+    go true h k = let l = h tt in omega arith
+    go false h k = let l = k tt in omega arith

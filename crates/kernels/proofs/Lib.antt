@@ -1,3 +1,1 @@
-pub mod Sums
-pub mod Biased
 pub mod Units

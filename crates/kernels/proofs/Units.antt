@@ -11,8 +11,8 @@ use lib.IntN.{ℤ, pos, natAbs, _+ℤ_, _-ℤ_, _*ℤ_}
 use lib.Signed.{ltZ}
 use Rattle.integers.specs.Divide.{floorDiv, ceilDiv}
 use Rattle.integers.specs.Sum.{sum}
-use Rattle.integers.proofs.Parts.{sub-parts}
-use Rattle.integers.proofs.Divide.{divided}
+use Rattle.integers.proofs.Parts.{sub-parts, abs-diff}
+use Rattle.integers.proofs.Divide.{divided, ceil-least}
 use Rattle.integers.proofs.Order.{lt-of-parts, parts-of-lt}
 use Rattle.lists.specs.Tabulate.{tabulate}
 use Rattle.lists.specs.Count.{count}
@@ -22,9 +22,12 @@ use Rattle.model.specs.Kernel.{tap, kernel, magnitude}
 use Rattle.model.specs.Apportion.{quotient, remainder, comesBefore, getsUnit, share, apportion}
 use Rattle.model.specs.Tolerance.{scaledGain}
 use Rattle.model.proofs.Apportion.{lacking-by-remainders}
-use Rattle.kernels.specs.Kernel.{offsetOf, numeratorOf, tapOf, kernelOf, remainderOf, before, Limits, Shared}
-use Rattle.kernels.proofs.Sums.{map-tabulate}
-use Rattle.kernels.proofs.Biased.{abs-diff}
+use Rattle.stage_values.specs.Place.{offsetOf}
+use Rattle.numerators.specs.Numerator.{numeratorOf, remainderOf}
+use Rattle.kernels.specs.Kernel.{tapOf, kernelOf, Limits}
+use Rattle.stage_values.specs.Ready.{Ready}
+use Rattle.spare_units.specs.Order.{before}
+use Rattle.lists.proofs.Sums.{map-tabulate}
 
 -- ---- each numerator is within the gain
 
@@ -121,14 +124,23 @@ module _ (divisor : ℕ) (offsets values : List ℕ) (n : ℕ) (l : Limits divis
   unfolding numeratorOf
   value-small i h = omega (arith, one-within divisor offsets values n l i h, abs-diff (getD values i 0) 274877906944, l .few)
 
--- an axis of the code is the model's
-pub axis-shared : (divisor : ℕ) (offsets values : List ℕ) (n m gain : ℕ) (weights : List ℤ)
-    → take n weights ≡ map (λ t. t .weight) (apportion (kernelOf divisor offsets values n))
-    → m ≡ sum (tabulate (λ i. natAbs (numeratorOf (getD values i 0))) n) → gain ≡ ceilDiv (65536 * m) divisor
-    → Shared (kernelOf divisor offsets values n) weights n gain
-unfolding kernelOf kernel scaledGain
-axis-shared divisor offsets values n m gain weights e f g = record {
-  count = sym (length-tabulate (tapOf offsets values) n);
-  shares = e;
-  scaled-gain = g ∙ ap (λ (k : ℕ). ceilDiv (65536 * k) divisor) (f ∙ sym (magnitude-is offsets values n));
-}
+-- an axis of the code is the model's, and ready
+module _ (divisor : ℕ) (offsets values : List ℕ) (n m gain : ℕ) (weights : List ℤ) (l : Limits divisor offsets values n)
+    (e : take n weights ≡ map (λ t. t .weight) (apportion (kernelOf divisor offsets values n)))
+    (f : m ≡ sum (tabulate (λ i. natAbs (numeratorOf (getD values i 0))) n)) (g : gain ≡ ceilDiv (65536 * m) divisor) where
+  gain-is : gain ≡ scaledGain (kernelOf divisor offsets values n)
+  unfolding kernelOf kernel scaledGain
+  gain-is = g ∙ ap (λ (k : ℕ). ceilDiv (65536 * k) divisor) (f ∙ sym (magnitude-is offsets values n))
+
+  pub axis-ready : Ready (kernelOf divisor offsets values n) (record { offsets = offsets; weights = weights; len = n; gain = gain })
+  unfolding kernelOf kernel tapOf tap scaledGain
+  axis-ready = record {
+    count = sym (length-tabulate (tapOf offsets values) n);
+    places = sym (map-tabulate (λ t. t .offset) (tapOf offsets values) n);
+    shares = e;
+    scaled-gain = gain-is;
+    few = l .taps;
+    near = l .near;
+    limited = rw gain-is (ceil-least (65536 * magnitude (tabulate (tapOf offsets values) n)) divisor 262144 (l .some) (omega (arith, l .gain)));
+    divided = l .some;
+  }

@@ -1,1 +1,2 @@
+-- Kernels as the code holds them, definitions only.
 pub mod Kernel

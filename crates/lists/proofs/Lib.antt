@@ -4,3 +4,5 @@ pub mod Raster
 pub mod Pairs
 pub mod Count
 pub mod Order
+pub mod Sums
+pub mod Stored

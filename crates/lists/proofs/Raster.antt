@@ -9,8 +9,7 @@ use native.Mathlib.Omega.{arith}
 use lib.ListN.{length, getD, drop, take, replicate, replicate-append-replicate, length-append, List·getD-append}
 use lib.Seq.{getD-append-add}
 use mathlib.Core.Logic.{⊎-elim}
-use Rattle.lists.specs.Tabulate.{tabulate}
-use Rattle.lists.specs.Tabulate.{raster}
+use Rattle.lists.specs.Tabulate.{tabulate, raster}
 use Rattle.lists.proofs.Tabulate.{length-tabulate, getD-tabulate, tabulate-ext, tabulate-const}
 use Rattle.lists.proofs.Part.{front-more}
 

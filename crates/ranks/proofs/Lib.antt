@@ -1,4 +1,3 @@
-pub mod Stored
+pub mod StoredAt
 pub mod Planes
-pub mod Levels
-pub mod Window
+pub mod RankWindow

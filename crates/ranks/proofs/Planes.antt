@@ -10,23 +10,24 @@ use lib.Seq.{length-take-le, take-at, drop-at}
 use Rattle.lists.specs.Tabulate.{tabulate, raster}
 use Rattle.lists.proofs.Part.{drop-past}
 use Rattle.lists.proofs.Raster.{length-raster}
-use Rattle.frame.specs.Padded.{Frame}
+use Rattle.frame.specs.declared.Frame.{Frame}
+use Rattle.frame.specs.Framed.{Framed}
 
 -- a part of n samples from place n on
 pub part-behind : (n : ℕ) (l : List ℕ) → take (n + n - n) (drop n l) ≡ take n (drop n l)
 part-behind n l = let e : n + n - n ≡ n = omega arith in rw e
 
 -- the plane behind ends inside the buffer
-pub plane-behind : {W H : ℕ} (n : ℕ) (l : List ℕ) → n ≡ H * W → Frame W H (take n (drop n l)) → n + n ≤ length l
-plane-behind n l e f = omega (arith, e, f .whole, length-take n (drop n l), length-drop n l)
+pub plane-behind : {f : Frame} (n : ℕ) (l : List ℕ) → n ≡ f .height * f .width → Framed f (take n (drop n l)) → n + n ≤ length l
+plane-behind n l e h = omega (arith, e, h .whole, length-take n (drop n l), length-drop n l)
 
 -- after a copy the plane behind is what the front plane was
 pub behind-copied : (n : ℕ) (d l : List ℕ) → n ≤ length d → l ≡ take n d ++ take n d ++ drop (n + n) d → take n (drop n l) ≡ take n d
 behind-copied n d l h e = rw (e, append-assoc, drop-at (take n d) _ n (length-take-le n d h), take-at (take n d) _ n (length-take-le n d h))
 
 -- no frame is large
-pub plane-small : {W H : ℕ} {samples : List ℕ} → Frame W H samples → H * W ≤ 67108864
-plane-small f = mul-le-mul {n₂ = 8192} {m₂ = 8192} (f .height .1) (f .width .1)
+pub plane-small : {f : Frame} {samples : List ℕ} → Framed f samples → f .height * f .width ≤ 67108864
+plane-small h = mul-le-mul {n₂ = 8192} {m₂ = 8192} (h .height .1) (h .width .1)
 
 module _ (g : ℕ → ℕ → ℕ) (w v at : ℕ) (d l : List ℕ) (e : at ≡ v * w) (el : l ≡ raster g w v ++ drop at d) where
   rows-length : length (raster g w v) ≡ at

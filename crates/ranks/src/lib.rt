@@ -1,112 +1,27 @@
 // Rank stages: the counts of grey levels in a window give its p-th smallest sample.
-use recipe::stage::Border;
+use frame::Frame;
+use stage_values::Window;
 ghost use mathlib.Core.Path.{_≡_};
-ghost use mathlib.Core.List.{[], _++_};
-ghost use Prim.Native.Nat.{ℕ, _+_, _*_, _≤_, _<_};
-ghost use lib.ListN.{length, getD, take, drop};
-ghost use Rattle.lists.specs.Tabulate.{tabulate, raster};
-ghost use Rattle.model.specs.Plane.{planeOf, around};
+ghost use mathlib.Core.List.{_++_};
+ghost use Prim.Native.Nat.{_+_, _*_, _≤_, _<_};
+ghost use lib.ListN.{length, take, drop};
+ghost use Rattle.lists.specs.Tabulate.{tabulate};
 ghost use Rattle.model.specs.Window.{area};
 ghost use Rattle.model.specs.Rank.{rankResult};
-ghost use Rattle.recipe.specs.Stands.{borderIs};
-ghost use Rattle.frame.specs.Padded.{padded, Frame};
-ghost use Rattle.ranks.specs.Histogram.{counted, histogram, total};
-
-// The counts with one row of a window more: `across` samples, from place x of row y.
-fn count_row(
-    plane: &[u8],
-    w: usize,
-    h: usize,
-    border: Border,
-    value: u8,
-    x: usize,
-    y: usize,
-    across: usize,
-    counts: &mut [u32],
-)
-    requires { ⌜ Frame w h (now plane) × (x ≤ 8300) × (y ≤ 8300) × (across ≤ 31) × (length (now counts) ≡ 256) × ((g : ℕ) → getD (now counts) g 0 ≤ 961) ⌝ }
-    ensures { λ _. ⌜ now (counts .exit) ≡ counted (now (counts .entry)) (tabulate (λ i. padded (borderIs border) value w h (planeOf w (now (plane .entry))) (x + i) y) across) ⌝ }
-{
-    let mut i = 0;
-    while i < across {
-        let level = frame::sample_at(plane, w, h, border, value, x + i, y) as usize;
-        counts[level] += 1;
-        i += 1;
-    }
-}
-
-// The counts of the window whose first sample is at place x, y.
-fn count_window(
-    plane: &[u8],
-    w: usize,
-    h: usize,
-    border: Border,
-    value: u8,
-    x: usize,
-    y: usize,
-    across: usize,
-    down: usize,
-    counts: &mut [u32],
-)
-    requires { ⌜ Frame w h (now plane) × (x ≤ 8250) × (y ≤ 8250) × (across ≤ 31) × (down ≤ 31) × (now counts ≡ histogram []) ⌝ }
-    ensures { λ _. ⌜ now (counts .exit) ≡ histogram (raster (λ i j. padded (borderIs border) value w h (planeOf w (now (plane .entry))) (x + i) (y + j)) across down) ⌝ }
-{
-    let mut j = 0;
-    while j < down {
-        count_row(plane, w, h, border, value, x, y + j, across, counts);
-        j += 1;
-    }
-}
-
-// The level at which the sum of the counts reaches p.
-fn level_at(counts: &[u32], p: usize) -> u8
-    requires { ⌜ (length (now counts) ≡ 256) × (1 ≤ p) × (p ≤ 961) × (p ≤ total (now counts) 256) ⌝ }
-    ensures { λ g. ⌜ (total (now (counts .entry)) g < p) × (p ≤ total (now (counts .entry)) (g + 1)) ⌝ }
-{
-    let mut seen = 0;
-    let mut level: u8 = 0;
-    while level < 255 {
-        seen += counts[level as usize] as usize;
-        if p <= seen {
-            return level;
-        }
-        level += 1;
-    }
-    level
-}
+ghost use Rattle.frame.specs.Framed.{Framed, neighbours, worked};
 
 // The sample of a rank stage at column u, row v.
-fn ranked(
-    plane: &[u8],
-    w: usize,
-    h: usize,
-    border: Border,
-    value: u8,
-    r: usize,
-    s: usize,
-    p: usize,
-    u: usize,
-    v: usize,
-) -> u8
-    requires { ⌜ Frame w h (now plane) × (r ≤ 15) × (s ≤ 15) × (1 ≤ p) × (p ≤ area r s) × (u < w) × (v < h) ⌝ }
-    ensures { λ q. ⌜ q ≡ rankResult r s p (around (borderIs border) value w h (planeOf w (now (plane .entry))) u v) ⌝ }
+fn ranked(frame: Frame, window: Window, p: usize, plane: &[u8], u: usize, v: usize) -> u8
+    requires { ⌜ Framed frame (now plane) × (window .r ≤ 15) × (window .s ≤ 15) × (1 ≤ p) × (p ≤ area (window .r) (window .s)) × (u < frame .width) × (v < frame .height) ⌝ }
+    ensures { λ q. ⌜ q ≡ rankResult (window .r) (window .s) p (neighbours frame (now (plane .entry)) u v) ⌝ }
 {
+    let r = window.r;
+    let s = window.s;
     let mut counts = [0u32; 256];
     let x = 15 - r + u;
     let y = 15 - s + v;
-    count_window(
-        plane,
-        w,
-        h,
-        border,
-        value,
-        x,
-        y,
-        2 * r + 1,
-        2 * s + 1,
-        &mut counts,
-    );
-    level_at(&counts, p)
+    histograms::count_window(frame, window, plane, x, y, &mut counts);
+    histograms::level_at(&counts, p)
 }
 
 // The plane of n samples at the front of `work` once more behind itself.
@@ -121,52 +36,34 @@ fn keep(work: &mut [u8], n: usize)
     }
 }
 
-// One row of a rank stage, stored from place `at` on; the samples before are n places on.
-fn rank_row(
-    work: &mut [u8],
-    n: usize,
-    at: usize,
-    w: usize,
-    h: usize,
-    border: Border,
-    value: u8,
-    r: usize,
-    s: usize,
-    p: usize,
-    v: usize,
-)
-    requires { ⌜ Frame w h (take n (drop n (now work))) × (n ≡ h * w) × (at ≡ v * w) × (v < h) × (r ≤ 15) × (s ≤ 15) × (1 ≤ p) × (p ≤ area r s) ⌝ }
-    ensures { λ _. ⌜ now (work .exit) ≡ take at (now (work .entry)) ++ tabulate (λ u. rankResult r s p (around (borderIs border) value w h (planeOf w (take n (drop n (now (work .entry))))) u v)) w ++ drop (at + w) (now (work .entry)) ⌝ }
+// Row v of a rank stage, stored in the plane at the front of `work`. The plane behind it holds the samples before.
+fn rank_row(frame: Frame, window: Window, p: usize, v: usize, work: &mut [u8])
+    requires { ⌜ Framed frame (take (frame .height * frame .width) (drop (frame .height * frame .width) (now work))) × (v < frame .height) × (window .r ≤ 15) × (window .s ≤ 15) × (1 ≤ p) × (p ≤ area (window .r) (window .s)) ⌝ }
+    ensures { λ _. ⌜ now (work .exit) ≡ take (v * frame .width) (now (work .entry)) ++ tabulate (λ u. rankResult (window .r) (window .s) p (neighbours frame (take (frame .height * frame .width) (drop (frame .height * frame .width) (now (work .entry)))) u v)) (frame .width) ++ drop (v * frame .width + frame .width) (now (work .entry)) ⌝ }
 {
+    let w = frame.width;
+    let h = frame.height;
+    let n = h * w;
+    let at = v * w;
     let mut u = 0;
     while u < w {
-        let level = ranked(&work[n..n + n], w, h, border, value, r, s, p, u, v);
+        let level = ranked(frame, window, p, &work[n..n + n], u, v);
         work[at + u] = level;
         u += 1;
     }
 }
 
 // A rank stage on the plane at the front of `work`. The plane behind it holds the samples before.
-pub fn rank_stage(
-    work: &mut [u8],
-    w: usize,
-    h: usize,
-    border: Border,
-    value: u8,
-    r: usize,
-    s: usize,
-    p: usize,
-)
-    requires { ⌜ Frame w h (take (h * w) (now work)) × (2 * (h * w) ≤ length (now work)) × (r ≤ 15) × (s ≤ 15) × (1 ≤ p) × (p ≤ area r s) ⌝ }
-    ensures { λ _. ⌜ take (h * w) (now (work .exit)) ≡ raster (λ u v. rankResult r s p (around (borderIs border) value w h (planeOf w (take (h * w) (now (work .entry)))) u v)) w h ⌝ }
+pub fn rank_stage(frame: Frame, window: Window, p: usize, work: &mut [u8])
+    requires { ⌜ Framed frame (take (frame .height * frame .width) (now work)) × (2 * (frame .height * frame .width) ≤ length (now work)) × (window .r ≤ 15) × (window .s ≤ 15) × (1 ≤ p) × (p ≤ area (window .r) (window .s)) ⌝ }
+    ensures { λ _. ⌜ take (frame .height * frame .width) (now (work .exit)) ≡ worked frame (rankResult (window .r) (window .s) p) (take (frame .height * frame .width) (now (work .entry))) ⌝ }
 {
-    let n = h * w;
-    keep(work, n);
+    let w = frame.width;
+    let h = frame.height;
+    keep(work, h * w);
     let mut v = 0;
-    let mut at = 0;
     while v < h {
-        rank_row(work, n, at, w, h, border, value, r, s, p, v);
-        at += w;
+        rank_row(frame, window, p, v, work);
         v += 1;
     }
 }

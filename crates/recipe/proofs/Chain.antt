@@ -10,9 +10,9 @@ use Rattle.refusals.specs.Refusal.{verdict, tested}
 use Rattle.refusals.specs.declared.Verdict.the-variants as Verdict
 use Rattle.refusals.proofs.Passed.{passed-part, refused-part}
 use Rattle.model.specs.Tolerance.{afterStage, toleranceFrom}
-use Rattle.recipe.specs.declared.Recipe.{Recipe}
-use Rattle.recipe.specs.declared.Recipe.the-variants.{Refused, Stages}
-use Rattle.recipe.specs.Stage.{stageTests, stageLength, stageOf}
+use Rattle.answers.specs.declared.Recipe.{Recipe}
+use Rattle.answers.specs.declared.Recipe.the-variants.{Refused, Stages}
+use Rattle.recipe_stages.specs.StageBytes.{stageTests, stageLength, stageOf}
 use Rattle.recipe.specs.Recipe.{stagesTests, stagesOf}
 
 -- the answer of a recipe b of S stages whose first k end at place a, with T so far

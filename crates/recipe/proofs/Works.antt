@@ -4,9 +4,10 @@ use mathlib.Core.Path.{_≡_, sym, _∙_}
 use Rattle.model.specs.Stage as Model
 use Rattle.model.specs.Tolerance.{weightedGrowth, afterStage}
 use Rattle.tolerance.proofs.Growth.{after-weighted, after-box, after-rank}
-use Rattle.recipe.specs.declared.stage.Work.the-variants.{Weighted, Boxed, Ranked}
-use Rattle.recipe.specs.declared.stage.Stage.{Stage}
-use Rattle.recipe.specs.Stands.{Does, Stands}
+use Rattle.stage_values.specs.declared.Work.the-variants.{Weighted, Boxed, Ranked}
+use Rattle.stage_values.specs.declared.Stage.{Stage}
+use Rattle.stage_values.specs.declared.Window.{Window}
+use Rattle.stage_values.specs.Stands.{Does, Stands}
 
 growth-same : (T : ℕ) {g1 g2 n m g1′ g2′ n′ m′ : ℕ} → g1 ≡ g1′ → g2 ≡ g2′ → n ≡ n′ → m ≡ m′ → min (weightedGrowth g1 g2 n m T) 16711680 ≡ min (weightedGrowth g1′ g2′ n′ m′ T) 16711680
 growth-same T a b c d = rw (a, b, c, d)
@@ -22,10 +23,10 @@ module _ (s : Stage) (t : Model.Stage) (h : Stands s t) where
     pub weighted-after : (T : ℕ) {units : ℕ} → units ≡ min (weightedGrowth (s .across .gain) (s .down .gain) (s .across .len) (s .down .len) T) 16711680 → units ≡ afterStage T t
     weighted-after T f =
         let d = does in
-        f ∙ growth-same T (d .3 .shared .scaled-gain) (d .4 .shared .scaled-gain) (d .3 .shared .count) (d .4 .shared .count) ∙ sym (after-weighted T t (d .2))
+        f ∙ growth-same T (d .3 .scaled-gain) (d .4 .scaled-gain) (d .3 .count) (d .4 .count) ∙ sym (after-weighted T t (d .2))
 
-  pub box-after : (T : ℕ) {r q units : ℕ} → s .work ≡ Boxed r q → units ≡ min (T + 32768) 16711680 → units ≡ afterStage T t
-  box-after T {r} {q} e f = let d : Does (Boxed r q) s (t .work) = rw e at (h .work) in f ∙ sym (after-box T t (d .0))
+  pub box-after : (T : ℕ) {x : Window} {units : ℕ} → s .work ≡ Boxed x → units ≡ min (T + 32768) 16711680 → units ≡ afterStage T t
+  box-after T {x} e f = let d : Does (Boxed x) s (t .work) = rw e at (h .work) in f ∙ sym (after-box T t (d .0))
 
-  pub rank-after : (T : ℕ) {r q p units : ℕ} → s .work ≡ Ranked r q p → units ≡ min T 16711680 → units ≡ afterStage T t
-  rank-after T {r} {q} {p} e f = let d : Does (Ranked r q p) s (t .work) = rw e at (h .work) in f ∙ sym (after-rank T t (d .0))
+  pub rank-after : (T : ℕ) {x : Window} {p units : ℕ} → s .work ≡ Ranked x p → units ≡ min T 16711680 → units ≡ afterStage T t
+  rank-after T {x} {p} e f = let d : Does (Ranked x p) s (t .work) = rw e at (h .work) in f ∙ sym (after-rank T t (d .0))

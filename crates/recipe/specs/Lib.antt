@@ -1,7 +1,2 @@
--- Recipe bytes as document 01 has them ('Recipe bytes'), definitions only: the tests of each field in byte order, and the stages that pass them.
-pub mod Bytes
-pub mod Weighted
-pub mod Held
-pub mod Stage
-pub mod Stands
+-- Recipes as document 01 has them ('Recipe bytes'), definitions only.
 pub mod Recipe

@@ -8,10 +8,10 @@ use Rattle.refusals.specs.Refusal as Refusal
 use Rattle.refusals.specs.Refusal.{Test, tested}
 use Rattle.model.specs.Stage.{Stage}
 use Rattle.model.specs.Tolerance.{tolerance}
-use Rattle.recipe.specs.declared.Recipe.{Recipe}
-use Rattle.recipe.specs.declared.Recipe.the-variants.{Refused, Stages}
-use Rattle.recipe.specs.Bytes.{at, field}
-use Rattle.recipe.specs.Stage.{stageTests, stageLength, stageOf}
+use Rattle.answers.specs.declared.Recipe.{Recipe}
+use Rattle.answers.specs.declared.Recipe.the-variants.{Refused, Stages}
+use Rattle.recipe_bytes.specs.Bytes.{at, field}
+use Rattle.recipe_stages.specs.StageBytes.{stageTests, stageLength, stageOf}
 
 -- k stages one after the other; "then the end": "bytes after the last stage"
 unfoldable pub stagesTests : ℕ → List ℕ → List Test

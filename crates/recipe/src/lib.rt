@@ -1,24 +1,15 @@
-// Recipes: from a lab's bytes to stages, weights and the tolerance.
-pub mod check;
-pub mod stage;
-pub mod taps;
-pub mod weighted;
-
+// Reads a recipe: how many stages it has, and its tolerance.
+use answers::Recipe;
 use refusals::Verdict;
-use stage::Stage;
-use stage::Work;
+use stage_values::Stage;
+use stage_values::Work;
 use tolerance::Tolerance;
 ghost use mathlib.Core.Path.{_≡_};
 ghost use Prim.Native.Nat.{_≤_};
 ghost use Rattle.model.specs.Stage as Model;
 ghost use Rattle.model.specs.Tolerance.{afterStage};
-ghost use Rattle.recipe.specs.Stands.{Stands};
+ghost use Rattle.stage_values.specs.Stands.{Stands};
 ghost use Rattle.recipe.specs.Recipe.{recipeOf};
-
-pub enum Recipe {
-    Refused(u8),
-    Stages { count: u8, tolerance: u64 },
-}
 
 // The tolerance after one more stage.
 fn after(total: Tolerance, s: Stage) -> Tolerance
@@ -30,8 +21,8 @@ fn after(total: Tolerance, s: Stage) -> Tolerance
     let down = s.down;
     match work {
         Work::Weighted => total.after_weighted(across.gain, down.gain, across.len, down.len),
-        Work::Boxed { r: _, s: _ } => total.after_box(),
-        Work::Ranked { r: _, s: _, p: _ } => total.after_rank(),
+        Work::Boxed(_) => total.after_box(),
+        Work::Ranked(_, _) => total.after_rank(),
     }
 }
 
@@ -53,16 +44,16 @@ pub fn read_recipe(recipe: &[u8]) -> Recipe
     let mut k: u8 = 0;
     let mut total = Tolerance::start();
     while k < count {
-        let found = stage::tests(&recipe[at..]);
+        let part = &recipe[at..];
+        let found = recipe_stages::tests(part);
         k += 1;
         match found {
             Verdict::Refused(n) => {
                 return Recipe::Refused(n);
             }
             Verdict::Passed => {
-                let s = stage::read_stage(&recipe[at..]);
-                at += s.len;
-                total = after(total, s);
+                total = after(total, recipe_stages::read_stage(part));
+                at += recipe_stages::stage_length(part);
             }
         }
     }

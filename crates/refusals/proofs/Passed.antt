@@ -1,9 +1,11 @@
 -- An answer that is no refusal has passed every test; and tests that are run in parts. Assumes nothing.
-use Prim.Native.Nat.{ℕ}
-use mathlib.Core.Path.{_≡_, refl}
-use mathlib.Core.Bool.{true, false}
-use mathlib.Core.List.{List, [], _∷_, _++_}
+use Prim.Native.Nat.{ℕ, _≤_}
+use mathlib.Core.Path.{_≡_, refl, sym, ap, _∙_}
+use mathlib.Core.Bool.{true, false, _&&_, and-eq-true-iff}
+use mathlib.Core.List.{List, [], _∷_, _++_, append-nil}
 use native.Mathlib.Omega.{arith}
+use lib.Dec.{leb}
+use borrow.Author.Tests.{leb-true}
 use Rattle.refusals.specs.declared.Verdict.the-variants.{Refused, Passed}
 use Rattle.refusals.specs.Refusal.{Test, tested, verdict, andThen}
 
@@ -31,7 +33,18 @@ module _ {A : Type 0} (refuse : ℕ → A) (ys : List Test) (answer : A) where
   unfolding verdict
   refused-part [] e = let z : _≡_ {A = ℕ} 0 1 = cc in absurd (omega arith)
   refused-part ((true, m) ∷ xs) e = refused-part xs e
-  refused-part ((false, m) ∷ xs) {n} e = let d : m ≡ n = cc in mathlib.Core.Path.ap refuse d
+  refused-part ((false, m) ∷ xs) {n} e = let d : m ≡ n = cc in ap refuse d
+
+-- ---- answers by tests
+
+module _ {A : Type 0} (refuse : ℕ → A) (answer : A) where
+  -- tests that pass leave the answer
+  pub passed-whole : (ts : List Test) → verdict ts ≡ Passed → tested refuse ts answer ≡ answer
+  passed-whole ts e = ap (λ (l : List Test). tested refuse l answer) (sym (append-nil ts)) ∙ passed-part refuse [] answer ts e
+
+  -- tests that refuse decide
+  pub refused-whole : (ts : List Test) {n : ℕ} → verdict ts ≡ Refused n → tested refuse ts answer ≡ refuse n
+  refused-whole ts e = ap (λ (l : List Test). tested refuse l answer) (sym (append-nil ts)) ∙ refused-part refuse [] answer ts e
 
 pub all-pass : (ts : List Test) → verdict ts ≡ Passed → AllPass ts
 unfolding verdict
@@ -52,3 +65,15 @@ unfolding verdict
 passed-all [] h = refl
 passed-all ((true, n) ∷ ts) h = passed-all ts (h .1)
 passed-all ((false, n) ∷ ts) h = let z : _≡_ {A = ℕ} 0 1 = cc in absurd (omega arith)
+
+-- a first part that refuses, or passes
+pub refused-first : (xs ys : List Test) {n : ℕ} → verdict xs ≡ Refused n → Refused n ≡ verdict (xs ++ ys)
+refused-first xs ys e = rw (verdict-append xs ys, e)
+
+pub passed-first : (xs ys : List Test) → verdict xs ≡ Passed → verdict ys ≡ verdict (xs ++ ys)
+passed-first xs ys e = rw (verdict-append xs ys, e)
+
+-- ---- a test that n is from l to h
+
+pub between : (l n h : ℕ) → (leb l n && leb n h) ≡ true → (l ≤ n) × (n ≤ h)
+between l n h e = let p = and-eq-true-iff (leb l n) (leb n h) .0 e in (leb-true l n (p .0), leb-true n h (p .1))

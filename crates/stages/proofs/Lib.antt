@@ -1,3 +1,2 @@
-pub mod Walk
-pub mod Tables
-pub mod Works
+pub mod ChainLaws
+pub mod Through

@@ -34,3 +34,24 @@ pub fn load(folder: &[u8], name: &[u8], bytes: &mut [u8]) -> usize
     libc::close(fd);
     n
 }
+
+// The recipe of a folder.
+pub fn recipe(folder: &[u8], bytes: &mut [u8]) -> usize
+    ensures { λ r. ⌜ Counts r (now (bytes .exit)) ⌝ }
+{
+    load(folder, b"recipe", bytes)
+}
+
+// The still of a folder.
+pub fn still(folder: &[u8], bytes: &mut [u8]) -> usize
+    ensures { λ r. ⌜ Counts r (now (bytes .exit)) ⌝ }
+{
+    load(folder, b"still", bytes)
+}
+
+// The output that a folder's still has to give.
+pub fn output(folder: &[u8], bytes: &mut [u8]) -> usize
+    ensures { λ r. ⌜ Counts r (now (bytes .exit)) ⌝ }
+{
+    load(folder, b"out", bytes)
+}

@@ -6,6 +6,11 @@ pub fn text(bytes: &[u8]) {
     io::write_all(STDOUT_FILENO, bytes);
 }
 
+// A line's end.
+pub fn end() {
+    text(b"\n");
+}
+
 // A blank and a number.
 pub fn number(n: u64) {
     text(b" ");
@@ -18,7 +23,15 @@ pub fn refusal(n: u8) {
     number(n as u64);
 }
 
-// What was held against what is wanted.
+// A picture by its size.
+pub fn picture(width: usize, height: usize, channels: usize) {
+    text(b" ok");
+    number(width as u64);
+    number(height as u64);
+    number(channels as u64);
+}
+
+// Whether the output is what is wanted.
 pub fn same(holds: bool) {
     if holds {
         text(b" same");
@@ -27,7 +40,7 @@ pub fn same(holds: bool) {
     }
 }
 
-// What was to stay as it was.
+// Whether what was to stay has stayed.
 pub fn kept(holds: bool) {
     if holds {
         text(b" kept");

@@ -18,6 +18,16 @@ pub fn first(text: &[u8]) -> usize
     i
 }
 
+// The first letter of the word after the one that ends at a place, or 0.
+pub fn letter(text: &[u8], end: usize) -> u8 {
+    if end < text.len() {
+        if text.len() - end > 1 {
+            return text[end + 1];
+        }
+    }
+    0
+}
+
 // A number of up to nine digits with one byte more. Other bytes, as the LF of a line, are passed over.
 fn with_digit(value: usize, b: u8) -> usize {
     if b < 48 {

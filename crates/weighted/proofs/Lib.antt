@@ -1,4 +1,2 @@
-pub mod Sums
-pub mod Turns
 pub mod Reaching
 pub mod Model

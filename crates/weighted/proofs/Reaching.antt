@@ -6,7 +6,7 @@ use mathlib.Core.Path.{_≡_}
 use mathlib.Core.Logic.{⊎-elim}
 use mathlib.Core.List.{List}
 use lib.ListN.{getD}
-use Rattle.weighted.specs.Held.{Reaches}
+use Rattle.tap_sums.specs.HeldSums.{Reaches}
 
 pub reaches-none : (offsets : List ℕ) → Reaches offsets 0 15 15
 reaches-none offsets = record { own = (omega arith, omega arith); near = omega arith; all = λ i h. absurd (not-suc-le-zero h) }

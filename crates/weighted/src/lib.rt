@@ -1,41 +1,22 @@
-// Weighted stages: row values by the taps across, then levels by the taps down. Taps are the outer loop and columns the inner one.
-pub mod columns;
-pub mod rows;
-
-use kernels::Axis;
-use recipe::stage::Border;
+// Weighted stages: row values by the taps across, then levels by the taps down.
+use frame::Frame;
+use stage_values::Axis;
+use weighted_columns::Reach;
 ghost use mathlib.Core.Path.{_≡_};
-ghost use Prim.Native.Nat.{ℕ, _+_, _*_, _≤_, _<_, min, max};
-ghost use lib.ListN.{length};
+ghost use mathlib.Core.List.{_++_};
+ghost use Prim.Native.Nat.{_+_, _*_, _≤_};
+ghost use lib.ListN.{length, drop};
 ghost use Rattle.lists.specs.Tabulate.{raster};
 ghost use Rattle.model.specs.Kernel.{Kernel};
-ghost use Rattle.model.specs.Plane.{planeOf, around};
 ghost use Rattle.model.specs.Weighted.{weightedResult};
-ghost use Rattle.recipe.specs.Stands.{borderIs, Ready};
-ghost use Rattle.frame.specs.Padded.{Frame};
-ghost use Rattle.weighted.specs.Held.{Light, Reaches};
-
-// The first and the last row that a tap reaches, held 15 too large.
-pub struct Reach {
-    pub first: usize,
-    pub last: usize,
-}
-
-fn smaller(a: usize, b: usize) -> usize
-    ensures { λ r. ⌜ r ≡ min a b ⌝ }
-{
-    if a < b { a } else { b }
-}
-
-fn larger(a: usize, b: usize) -> usize
-    ensures { λ r. ⌜ r ≡ max a b ⌝ }
-{
-    if a < b { b } else { a }
-}
+ghost use Rattle.stage_values.specs.Ready.{Ready};
+ghost use Rattle.frame.specs.Framed.{Framed, worked};
+ghost use Rattle.frame.specs.Padded.{padded};
+ghost use Rattle.tap_sums.specs.HeldSums.{heldRow, Light, Reaches};
 
 // The rows that an axis reaches, its own among them.
 fn reach_of(axis: Axis) -> Reach
-    requires { ⌜ Light (axis .offsets) (axis .weights) (axis .len) ⌝ }
+    requires { ⌜ Light axis ⌝ }
     ensures { λ r. ⌜ Reaches (axis .offsets) (axis .len) (r .first) (r .last) ⌝ }
 {
     let len = axis.len;
@@ -45,32 +26,42 @@ fn reach_of(axis: Axis) -> Reach
     let mut k = 0;
     while k < len {
         let place = offsets[k] as usize;
-        first = smaller(first, place);
-        last = larger(last, place);
+        first = integers::smaller(first, place);
+        last = integers::larger(last, place);
         k += 1;
     }
     Reach { first, last }
 }
 
-// A weighted stage on a plane, in place: the row values hold what it needs of the samples before. No row is made that no tap reaches.
-pub fn weighted_stage(
-    plane: &mut [u8],
-    w: usize,
-    h: usize,
-    border: Border,
-    value: u8,
-    across: Axis,
-    down: Axis,
-    rows: &mut [i32],
-)
-    requires { ⌜ Frame w h (now plane) × ((h + 30) * w ≤ length (now rows)) × ((K : Kernel) × Ready K (across .offsets) (across .weights) (across .len) (across .gain)) × ((L : Kernel) × Ready L (down .offsets) (down .weights) (down .len) (down .gain)) ⌝ }
-    ensures { λ _. ⌜ ((K L : Kernel) → Ready K (across .offsets) (across .weights) (across .len) (across .gain) → Ready L (down .offsets) (down .weights) (down .len) (down .gain) → now (plane .exit) ≡ raster (λ u v. weightedResult K L (around (borderIs border) value w h (planeOf w (now (plane .entry))) u v)) w h) ⌝ }
+// The row values of `count` rows, from place `first` on.
+fn all_rows(frame: Frame, plane: &[u8], axis: Axis, first: usize, count: usize, rows: &mut [i32])
+    requires { ⌜ Framed frame (now plane) × (first ≤ 15) × (count ≤ 8222) × (count * frame .width ≤ length (now rows)) × Light axis ⌝ }
+    ensures { λ _. ⌜ now (rows .exit) ≡ raster (λ u y. heldRow axis (padded frame (now (plane .entry))) u (first + y)) (frame .width) count ++ drop (count * frame .width) (now (rows .entry)) ⌝ }
 {
-    let reached = reach_of(down);
-    let first = reached.first;
-    let last = reached.last;
+    let w = frame.width;
+    let mut row = [0u8; 8224];
+    let mut at = 0;
+    let mut y = 0;
+    while y < count {
+        frame::padded_row(frame, plane, first + y, &mut row);
+        weighted_rows::row_values(&row, w, axis, &mut rows[at..]);
+        at += w;
+        y += 1;
+    }
+}
+
+// A weighted stage on a plane, in place: the row values hold what it needs of the samples before. No row is made that no tap reaches.
+pub fn weighted_stage(frame: Frame, across: Axis, down: Axis, plane: &mut [u8], rows: &mut [i32])
+    requires { ⌜ Framed frame (now plane) × ((frame .height + 30) * frame .width ≤ length (now rows)) × ((K : Kernel) × Ready K across) × ((L : Kernel) × Ready L down) ⌝ }
+    ensures { λ _. ⌜ ((K L : Kernel) → Ready K across → Ready L down → now (plane .exit) ≡ worked frame (weightedResult K L) (now (plane .entry))) ⌝ }
+{
+    let w = frame.width;
+    let h = frame.height;
+    let reach = reach_of(down);
+    let first = reach.first;
+    let last = reach.last;
     let count = h + (last - first);
     let n = count * w;
-    rows::all_rows(plane, w, h, border, value, across, first, count, rows);
-    columns::all_columns(&rows[..n], w, h, first, last, down, plane);
+    all_rows(frame, plane, across, first, count, rows);
+    weighted_columns::all_columns(&rows[..n], w, h, reach, down, plane);
 }

@@ -1,9 +1,6 @@
 -- `boxes::box_stage` meets its contract: the means come from the table alone, so they may take the samples' place. Assumes nothing.
-use Prim.Native.Nat.{_+_, _*_}
 use native.Mathlib.Omega.{arith}
 use denote.Ref.{now}
-use Rattle.model.specs.Plane.{planeOf}
-use Rattle.recipe.specs.Stands.{borderIs}
 use Rattle.boxes.proofs.Windows.{corners-le, means-all}
 use borrow.Author.Needs.{needs}
 use Rattle.boxes.proofs.box_stage.Statement.{statement}
@@ -13,7 +10,6 @@ build-requires : tie.Need-build-requires
 build-requires c κs = search needs
 
 means-requires : tie.Need-means-requires
-unfolding planeOf
 means-requires c κs =
     let a = c .before .before .before .before .before .before .before .before .before .args in
     let p = c .before .before .before .before .before .before .before .before .before .pre in (
@@ -22,8 +18,7 @@ means-requires c κs =
       p .2,
       omega (arith, p .0 .whole),
       omega (arith, p .3),
-      corners-le (borderIs (a .border)) (a .value) (a .w) (a .h) (planeOf (a .w) (now (a .plane))) (a .r) (a .s) (p .1) (p .2) (omega arith)
-          (λ u v. omega (arith, c .before .before .before .before .before .before .before .before .slice-known .given (v * a .w + u))) _ _ (c .before .before .before .before .build .ensures),
+      corners-le (a .frame) (a .window) (now (a .plane)) (p .1) (p .2) (omega (arith, c .before .before .before .before .before .before .before .before .before .good .0 .1 .1 .1 .0)) (λ i. omega (arith, c .before .before .before .before .before .before .before .before .slice-known .given i)) _ _ (c .before .before .before .before .build .ensures),
     )
 
 same-length : tie.Need-same-length
@@ -33,12 +28,10 @@ same-length-2 : tie.Need-same-length-2
 same-length-2 c = search needs
 
 returns : tie.Need-returns
-unfolding planeOf
 returns c =
     let a = c .before .before .before .before .before .before .before .before .before .before .before .before .args in
     let p = c .before .before .before .before .before .before .before .before .before .before .before .before .pre in
-    means-all (borderIs (a .border)) (a .value) (a .w) (a .h) (planeOf (a .w) (now (a .plane))) (a .r) (a .s) (p .1) (p .2) (omega arith)
-    (λ u v. omega (arith, c .before .before .before .before .before .before .before .before .before .before .before .slice-known .given (v * a .w + u))) _ _ (c .before .before .before .before .before .before .before .build .ensures) (now (a .plane)) _ (p .0 .whole) (c .before .before .means .ensures)
+    means-all (a .frame) (a .window) (now (a .plane)) (p .1) (p .2) (omega (arith, c .before .before .before .before .before .before .before .before .before .before .before .before .good .0 .1 .1 .1 .0)) (λ i. omega (arith, c .before .before .before .before .before .before .before .before .before .before .before .slice-known .given i)) _ _ (c .before .before .before .before .before .before .before .build .ensures) (now (a .plane)) _ (p .0 .whole) (c .before .before .means .ensures)
 
 pub box-stage-spec : {M : Type 1} → statement M
 box-stage-spec =

@@ -1,23 +1,14 @@
 -- `capi::hejslopi_filter_plane` meets its contract. Assumes nothing.
-use mathlib.Core.Path.{refl, sym}
-use Rattle.capi.specs.Numbers.{planeTold}
-use Rattle.capi.proofs.Telling.{told, filters-plane}
+use Rattle.capi.proofs.Telling.{filters-plane}
 use borrow.Author.Needs.{needs}
 use Rattle.capi.proofs.hejslopi_filter_plane.Statement.{statement}
 use Rattle.capi.proofs.hejslopi_filter_plane.Tie as tie
-use Rattle.filter.proofs.plane.filter_plane.Reads as filter-plane-reads
 
 filter-plane-requires : tie.Need-filter-plane-requires
 filter-plane-requires c κs = search needs
 
-enum-known-n : tie.Need-enum-known-n
-enum-known-n c = search needs
-
-cast-result : tie.Need-cast-result
-cast-result c = search needs
-
-enum-known-t : tie.Need-enum-known-t
-enum-known-t c = search needs
+plane-requires : tie.Need-plane-requires
+plane-requires c κs = search needs
 
 same-length : tie.Need-same-length
 same-length c = search needs
@@ -32,38 +23,16 @@ same-length-4 : tie.Need-same-length-4
 same-length-4 c = search needs
 
 returns : tie.Need-returns
-returns c = filters-plane (c .before .before .before .before .before .before .before .before .before .before .filter-plane .ensures) (told planeTold (sym (c .before .n .given .1)) (record { number = refl; numbers = refl }))
-
-same-length-5 : tie.Need-same-length-5
-same-length-5 c = search needs
-
-same-length-6 : tie.Need-same-length-6
-same-length-6 c = search needs
-
-same-length-7 : tie.Need-same-length-7
-same-length-7 c = search needs
-
-same-length-8 : tie.Need-same-length-8
-same-length-8 c = search needs
-
-returns-2 : tie.Need-returns-2
-returns-2 c = filters-plane (c .before .before .before .before .before .before .before .before .before .before .before .filter-plane .ensures) (told planeTold (sym (c .before .before .t .given .1)) (record { number = refl; numbers = refl }))
+returns c = filters-plane (c .before .before .before .before .before .before .before .before .before .filter-plane .ensures) (c .plane .ensures)
 
 pub hejslopi-filter-plane-spec : {M : Type 1} → statement M
 hejslopi-filter-plane-spec =
     tie.close
     (tie.spec
     filter-plane-requires
-    enum-known-n
-    cast-result
-    enum-known-t
+    plane-requires
     same-length
     same-length-2
     same-length-3
     same-length-4
-    returns
-    same-length-5
-    same-length-6
-    same-length-7
-    same-length-8
-    returns-2)
+    returns)

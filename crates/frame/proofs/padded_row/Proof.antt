@@ -8,16 +8,13 @@ use denote.Ref.{now}
 use Rattle.lists.proofs.Tabulate.{tabulate-ext}
 use Rattle.lists.proofs.Part.{tail-mid}
 use Rattle.model.proofs.Border.{supply-inside}
-use Rattle.recipe.specs.Stands.{borderIs}
-use Rattle.frame.proofs.Supplied.{place-some, place-none, padded-row, padded-outside}
+use Rattle.stage_values.specs.Stands.{borderIs}
+use Rattle.frame.proofs.Supplied.{padded-row, padded-outside}
+use Rattle.places.proofs.PlaceLaws.{place-some, place-none}
 use Rattle.frame.proofs.Rows.{row-there, row-small}
-use borrow.Author.Needs.{needs}
 use borrow.Author.Needs.{needs}
 use Rattle.frame.proofs.padded_row.Statement.{statement}
 use Rattle.frame.proofs.padded_row.Tie as tie
-use Rattle.buffers.proofs.fill_front.Reads as fill-front-reads
-use Rattle.frame.proofs.place.Reads as place-reads
-use Rattle.frame.proofs.row_and_sides.Reads as row-and-sides-reads
 
 place-requires : tie.Need-place-requires
 place-requires c κs = search needs
@@ -38,7 +35,7 @@ row-and-sides-requires : tie.Need-row-and-sides-requires
 row-and-sides-requires c κs =
     let p = c .before .before .before .before .before .before .pre in
     let v = c .before .before .before .place .result in
-    (p .0 .width .0, p .0 .width .1, rw (tail-mid (v * c .before .before .before .before .before .before .args .w) (now (c .before .before .before .before .before .before .args .plane)), length-drop) (omega (arith, row-there v (p .0) (c .before .before .if1 .taken))), p .2)
+    (p .0 .width .0, p .0 .width .1, rw (tail-mid (v * c .before .before .before .before .before .before .args .frame .width) (now (c .before .before .before .before .before .before .args .plane)), length-drop) (omega (arith, row-there v (p .0) (c .before .before .if1 .taken))), p .2)
 
 add-fill-front : tie.Need-add-fill-front
 add-fill-front c = search needs
@@ -54,8 +51,8 @@ returns c =
     let a = c .before .before .before .before .before .before .before .before .before .args in
     let v = c .before .before .before .before .before .before .place .result in
     let e = place-some _ (c .before .before .before .before .before .before .place .ensures) (c .before .before .before .before .before .if1 .taken) in
-    c .before .before .row-and-sides .ensures ∙ ap (λ (t : List ℕ). t ++ drop (a .w + 30) (now (a .dst)))
-    (tabulate-ext _ _ (a .w + 30) (λ x k. rw (tail-mid (v * a .w) (now (a .plane))) (padded-row (borderIs (a .border)) (a .value) (a .w) (a .h) (now (a .plane)) x (a .y) v e)))
+    c .before .before .row-and-sides .ensures ∙ ap (λ (t : List ℕ). t ++ drop (a .frame .width + 30) (now (a .dst)))
+    (tabulate-ext _ _ (a .frame .width + 30) (λ x k. rw (tail-mid (v * a .frame .width) (now (a .plane))) (padded-row (a .frame) (now (a .plane)) x (a .y) v e)))
 
 same-length-2 : tie.Need-same-length-2
 same-length-2 c = search needs
@@ -63,9 +60,9 @@ same-length-2 c = search needs
 returns-2 : tie.Need-returns-2
 returns-2 c =
     let a = c .before .before .before .before .before .before .before .before .args in
-    let e = place-none _ (supply-inside (borderIs (a .border)) (a .h) _ (c .before .before .before .before .before .before .before .before .pre .0 .height .0)) (c .before .before .before .before .before .place .ensures) (c .before .before .before .before .if1 .left) in
-    c .before .before .fill-front .ensures ∙ ap (λ (t : List ℕ). t ++ drop (a .w + 30) (now (a .dst)))
-    (tabulate-ext _ _ (a .w + 30) (λ x k. padded-outside (borderIs (a .border)) (a .value) (a .w) (a .h) (now (a .plane)) x (a .y) e))
+    let e = place-none _ (supply-inside (borderIs (a .frame .border)) (a .frame .height) _ (c .before .before .before .before .before .before .before .before .pre .0 .height .0)) (c .before .before .before .before .before .place .ensures) (c .before .before .before .before .if1 .left) in
+    c .before .before .fill-front .ensures ∙ ap (λ (t : List ℕ). t ++ drop (a .frame .width + 30) (now (a .dst)))
+    (tabulate-ext _ _ (a .frame .width + 30) (λ x k. padded-outside (a .frame) (now (a .plane)) x (a .y) e))
 
 pub padded-row-spec : {M : Type 1} → statement M
 padded-row-spec =

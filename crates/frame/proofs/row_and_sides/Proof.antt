@@ -1,14 +1,10 @@
 -- `frame::row_and_sides` meets its contract: the left side, the row itself, the right side. Assumes nothing.
 use mathlib.Core.Path.{refl}
 use denote.Ref.{now}
-use Rattle.recipe.specs.Stands.{borderIs}
 use Rattle.frame.proofs.Rows.{row-with-sides}
-use borrow.Author.Needs.{needs}
 use borrow.Author.Needs.{needs}
 use Rattle.frame.proofs.row_and_sides.Statement.{statement}
 use Rattle.frame.proofs.row_and_sides.Tie as tie
-use Rattle.buffers.proofs.copy_front.Reads as copy-front-reads
-use Rattle.frame.proofs.side.Reads as side-reads
 
 side-requires : tie.Need-side-requires
 side-requires c κs = search needs
@@ -46,7 +42,7 @@ same-length c = search needs
 returns : tie.Need-returns
 returns c =
     let a = c .before .before .before .before .before .before .before .before .before .before .before .before .before .before .args in
-    row-with-sides (borderIs (a .border)) (a .value) (a .w) (now (a .row)) (c .before .before .before .before .before .before .before .before .before .before .before .before .before .before .pre .2) (now (a .dst)) _ _ _ _ (c .before .before .before .before .before .before .before .before .before .before .side .ensures) (c .before .before .before .before .before .before .copy-front .ensures) refl (c .before .before .side2 .ensures)
+    row-with-sides (a .frame) (now (a .row)) (c .before .before .before .before .before .before .before .before .before .before .before .before .before .before .pre .2) (now (a .dst)) _ _ _ _ (c .before .before .before .before .before .before .before .before .before .before .side .ensures) (c .before .before .before .before .before .before .copy-front .ensures) refl (c .before .before .side2 .ensures)
 
 pub row-and-sides-spec : {M : Type 1} → statement M
 row-and-sides-spec =

@@ -1,12 +1,10 @@
 -- `frame::sample` meets its contract: a place inside is in the row; another is the border value's. Assumes nothing.
 use Rattle.model.proofs.Border.{supply-inside}
 use Rattle.frame.specs.Padded.{rowPick}
-use Rattle.frame.proofs.Supplied.{place-some, place-none}
-use borrow.Author.Needs.{needs}
+use Rattle.places.proofs.PlaceLaws.{place-some, place-none}
 use borrow.Author.Needs.{needs}
 use Rattle.frame.proofs.sample.Statement.{statement}
 use Rattle.frame.proofs.sample.Tie as tie
-use Rattle.frame.proofs.place.Reads as place-reads
 
 place-requires : tie.Need-place-requires
 place-requires c κs = search needs

@@ -6,15 +6,13 @@ use lib.ListN.{length-drop}
 use denote.Ref.{now}
 use Rattle.lists.proofs.Part.{tail-mid}
 use Rattle.model.proofs.Border.{supply-inside}
-use Rattle.recipe.specs.Stands.{borderIs}
-use Rattle.frame.proofs.Supplied.{place-some, place-none, padded-row, padded-outside}
+use Rattle.stage_values.specs.Stands.{borderIs}
+use Rattle.frame.proofs.Supplied.{padded-row, padded-outside}
+use Rattle.places.proofs.PlaceLaws.{place-some, place-none}
 use Rattle.frame.proofs.Rows.{row-there, row-small}
-use borrow.Author.Needs.{needs}
 use borrow.Author.Needs.{needs}
 use Rattle.frame.proofs.sample_at.Statement.{statement}
 use Rattle.frame.proofs.sample_at.Tie as tie
-use Rattle.frame.proofs.place.Reads as place-reads
-use Rattle.frame.proofs.sample.Reads as sample-reads
 
 place-requires : tie.Need-place-requires
 place-requires c κs = search needs
@@ -35,20 +33,20 @@ sample-requires : tie.Need-sample-requires
 sample-requires c κs =
     let p = c .before .before .before .before .pre in
     let v = c .before .before .place .result in
-    (p .0 .width .0, p .0 .width .1, rw (tail-mid (v * c .before .before .before .before .args .w) (now (c .before .before .before .before .args .plane)), length-drop) (omega (arith, row-there v (p .0) (c .before .if1 .taken))), p .1)
+    (p .0 .width .0, p .0 .width .1, rw (tail-mid (v * c .before .before .before .before .args .frame .width) (now (c .before .before .before .before .args .plane)), length-drop) (omega (arith, row-there v (p .0) (c .before .if1 .taken))), p .1)
 
 returns : tie.Need-returns
 returns c =
     let a = c .before .before .before .before .before .args in
     let v = c .before .before .before .place .result in
     let e = place-some _ (c .before .before .before .place .ensures) (c .before .before .if1 .taken) in
-    c .sample .ensures ∙ rw (tail-mid (v * a .w) (now (a .plane))) (padded-row (borderIs (a .border)) (a .value) (a .w) (a .h) (now (a .plane)) (a .x) (a .y) v e)
+    c .sample .ensures ∙ rw (tail-mid (v * a .frame .width) (now (a .plane))) (padded-row (a .frame) (now (a .plane)) (a .x) (a .y) v e)
 
 returns-2 : tie.Need-returns-2
 returns-2 c =
     let a = c .before .before .before .args in
-    let e = place-none _ (supply-inside (borderIs (a .border)) (a .h) _ (c .before .before .before .pre .0 .height .0)) (c .before .place .ensures) (c .if1 .left) in
-    padded-outside (borderIs (a .border)) (a .value) (a .w) (a .h) (now (a .plane)) (a .x) (a .y) e
+    let e = place-none _ (supply-inside (borderIs (a .frame .border)) (a .frame .height) _ (c .before .before .before .pre .0 .height .0)) (c .before .place .ensures) (c .if1 .left) in
+    padded-outside (a .frame) (now (a .plane)) (a .x) (a .y) e
 
 pub sample-at-spec : {M : Type 1} → statement M
 sample-at-spec =

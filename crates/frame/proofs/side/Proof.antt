@@ -7,20 +7,16 @@ use mathlib.Core.List.{_++_}
 use lib.ListN.{length, drop, length-set}
 use Rattle.lists.specs.Tabulate.{tabulate}
 use Rattle.lists.proofs.Tabulate.{fill-none, fill-more}
-use Rattle.model.specs.Border.{supply}
-use Rattle.kernels.specs.Kernel.{offsetOf}
-use Rattle.recipe.specs.Stands.{borderIs}
-use Rattle.frame.specs.Padded.{rowPick}
+use Rattle.frame.specs.Padded.{rowSample}
 use borrow.Author.Needs.{needs}
 use Rattle.frame.proofs.side.Statement.{statement}
 use Rattle.frame.proofs.side.Tie as tie
-use Rattle.frame.proofs.sample.Reads as sample-reads
 
 abbrev Inv-loop : tie.InvT-loop
-Inv-loop row w border value from dst₀ i₀ dst i = (i ≤ 15) × (dst ≡ tabulate (λ k. rowPick value row (supply (borderIs border) w (offsetOf (from + k)))) i ++ drop i dst₀) × (length dst ≡ length dst₀)
+Inv-loop frame row from dst₀ i₀ dst i = (i ≤ 15) × (dst ≡ tabulate (λ k. rowSample frame row (from + k)) i ++ drop i dst₀) × (length dst ≡ length dst₀)
 
 abbrev μ-loop : tie.MeasureT-loop
-μ-loop row w border value from dst₀ i₀ dst i = 15 - i
+μ-loop frame row from dst₀ i₀ dst i = 15 - i
 
 loop-holds : tie.Need-loop-holds Inv-loop μ-loop
 loop-holds c = (omega arith, fill-none _ _, refl)

@@ -1,8 +1,9 @@
 -- `hejslopi::filter` is safe: an accepted output fits what was lent. Assumes nothing.
 use native.Mathlib.Omega.{arith}
-use mathlib.Core.Path.{sym, _∙_}
+use mathlib.Core.Path.{sym}
 use lib.Seq.{length-take-le}
-use Rattle.filter.proofs.Files.{file-accepted}
+use denote.Ref.{now}
+use Rattle.filter_answers.proofs.FileAccepted.{output-fits}
 use borrow.Author.Needs.{needs}
 use Rattle.hejslopi.proofs.filter.Statement.{statement}
 use Rattle.hejslopi.proofs.filter.Tie as tie
@@ -36,13 +37,13 @@ slice-aggregate-save c = search needs
 
 array-share-prefix-out : tie.Need-array-share-prefix-out
 array-share-prefix-out c =
-    let f = file-accepted _ _ _ (sym (c .before .before .before .before .before .before .before .before .filter-file .ensures .answered) ∙ c .before .before .width .given .1) in
-    omega (arith, f .output, f .size-is)
+    let a = c .before .before .before .before .before .before .before .before .before .before .before .before .before .before .before .args in
+    omega (arith, output-fits (now (a .recipe)) (now (a .still)) _ (c .before .before .before .before .before .before .before .before .filter-file .ensures .answered) (c .before .before .width .given .1))
 
 slice-aggregate-save-2 : tie.Need-slice-aggregate-save-2
 slice-aggregate-save-2 c =
-    let f = file-accepted _ _ _ (sym (c .before .before .before .before .before .before .before .before .before .filter-file .ensures .answered) ∙ c .before .before .before .width .given .1) in
-    sym (length-take-le _ _ (omega (arith, f .output, f .size-is)))
+    let a = c .before .before .before .before .before .before .before .before .before .before .before .before .before .before .before .before .args in
+    sym (length-take-le _ _ (omega (arith, output-fits (now (a .recipe)) (now (a .still)) _ (c .before .before .before .before .before .before .before .before .before .filter-file .ensures .answered) (c .before .before .before .width .given .1))))
 
 save-requires : tie.Need-save-requires
 save-requires c κs = search needs

@@ -2,7 +2,7 @@
 use native.Mathlib.Omega.{arith}
 use mathlib.Core.Path.{sym, _∙_}
 use lib.Seq.{length-take-le}
-use Rattle.hejslopi.proofs.Limits.{found-within}
+use Rattle.disk_tests.proofs.Limits.{found-within}
 use borrow.Author.Needs.{needs}
 use Rattle.hejslopi.proofs.main.Statement.{statement}
 use Rattle.hejslopi.proofs.main.Tie as tie

@@ -1,7 +1,6 @@
 -- `kernels::axis_of` meets its contract. Assumes nothing.
 use native.Mathlib.Omega.{arith}
-use mathlib.Core.Path.{refl}
-use Rattle.kernels.proofs.Units.{magnitude-is, value-small, axis-shared}
+use Rattle.kernels.proofs.Units.{magnitude-is, value-small, axis-ready}
 use borrow.Author.Needs.{needs}
 use Rattle.kernels.proofs.axis_of.Statement.{statement}
 use Rattle.kernels.proofs.axis_of.Tie as tie
@@ -32,7 +31,7 @@ scaled-gain-requires c κs =
 returns : tie.Need-returns
 returns c =
     let k = c .before .before .before .before .before .before .before .before .args .k in
-    (refl, axis-shared (k .divisor) (k .offsets) (k .values) (k .len) _ _ _ (c .before .before .before .shares .ensures .1) (c .before .magnitude .ensures) (c .scaled-gain .ensures))
+    axis-ready (k .divisor) (k .offsets) (k .values) (k .len) _ _ _ (c .before .before .before .before .before .before .before .before .pre) (c .before .before .before .shares .ensures .1) (c .before .magnitude .ensures) (c .scaled-gain .ensures)
 
 pub axis-of-spec : {M : Type 1} → statement M
 axis-of-spec =

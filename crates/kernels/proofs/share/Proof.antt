@@ -5,8 +5,8 @@ use mathlib.Core.Path.{_∙_}
 use lib.IntN.{pos, _*ℤ_}
 use mir.Syntax.{w32}
 use Rattle.integers.proofs.Machine.{diff-fits, diff-is}
-use Rattle.kernels.specs.Kernel.{numeratorOf}
-use Rattle.kernels.proofs.Biased.{raised-le, quotient-le, floor-biased, share-is}
+use Rattle.numerators.specs.Numerator.{numeratorOf}
+use Rattle.numerators.proofs.Biased.{raised-le, quotient-le, floor-biased, share-is}
 use borrow.Author.Needs.{needs}
 use Rattle.kernels.proofs.share.Statement.{statement}
 use Rattle.kernels.proofs.share.Tie as tie

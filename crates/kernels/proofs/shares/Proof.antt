@@ -1,22 +1,19 @@
 -- `kernels::shares` meets its contract: what is stored at i is the model's weight of tap i. Assumes nothing.
-use Prim.Native.Nat.{ℕ, _-_, _+_, _*_, _/_, _≤_, _<_}
+use Prim.Native.Nat.{ℕ, _-_, _+_, _≤_}
 use native.Mathlib.Nat.{le-antisymm}
 use native.Mathlib.Omega.{arith}
 use mathlib.Core.Path.{_≡_, refl, sym, ap, _∙_}
 use mathlib.Core.Bool.{Bool, cond}
-use mathlib.Core.List.{List, _++_}
-use lib.ListN.{length, getD, drop, take, length-set, length-take}
+use mathlib.Core.List.{_++_}
+use lib.ListN.{length, drop, take, length-set}
 use lib.Seq.{take-at}
-use lib.IntN.{ℤ}
-use lib.Dec.{ltb}
 use mir.Syntax.{w32}
 use mir.Val.{toZ, ofZ}
 use denote.Ref.{now}
-use Rattle.integers.specs.Sum.{sum}
 use Rattle.lists.specs.Tabulate.{tabulate}
 use Rattle.lists.proofs.Tabulate.{fill-none, fill-more, length-tabulate}
-use Rattle.model.specs.Apportion.{share, getsUnit}
-use Rattle.kernels.specs.Kernel.{tapOf, kernelOf, remainderOf}
+use Rattle.model.specs.Apportion.{share}
+use Rattle.kernels.specs.Kernel.{tapOf, kernelOf}
 use Rattle.kernels.proofs.Units.{one-within, rest-small, unit-is, weight-is, shares-are}
 use borrow.Author.Needs.{needs}
 use Rattle.kernels.proofs.shares.Statement.{statement}

@@ -3,13 +3,11 @@ use Prim.Native.Nat.{ℕ, _-_, _≤_}
 use native.Mathlib.Nat.{le-antisymm}
 use native.Mathlib.Omega.{arith}
 use mathlib.Core.Path.{subst}
-use Rattle.weighted.specs.Held.{Reaches}
+use Rattle.tap_sums.specs.HeldSums.{Reaches}
 use Rattle.weighted.proofs.Reaching.{reaches-none, reaches-more}
 use borrow.Author.Needs.{needs}
 use Rattle.weighted.proofs.reach_of.Statement.{statement}
 use Rattle.weighted.proofs.reach_of.Tie as tie
-use Rattle.weighted.proofs.larger.Reads as larger-reads
-use Rattle.weighted.proofs.smaller.Reads as smaller-reads
 
 abbrev Inv-loop : tie.InvT-loop
 Inv-loop len offsets first₀ last₀ k₀ first last k = (k ≤ len) × Reaches offsets k first last

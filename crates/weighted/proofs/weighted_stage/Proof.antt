@@ -1,27 +1,22 @@
 -- `weighted::weighted_stage` meets its contract: the row values that the taps down reach, then the levels. Assumes nothing.
-use Prim.Native.Nat.{ℕ, _+_, _*_, _-_, _≤_, _<_}
+use Prim.Native.Nat.{ℕ, _+_, _*_, _-_, _≤_}
 use native.Mathlib.Nat.{mul-le-mul}
 use native.Mathlib.Omega.{arith}
 use mathlib.Core.Path.{_≡_, sym, _∙_}
 use mathlib.Core.List.{List, _++_}
 use denote.Ref.{now}
-use lib.ListN.{getD, drop, take, length-append}
+use lib.ListN.{drop, take, length-append}
 use lib.Seq.{take-at}
 use lib.IntN.{ℤ}
+use Rattle.frame.specs.Framed.{worked}
 use Rattle.lists.specs.Tabulate.{raster}
 use Rattle.lists.proofs.Raster.{raster-ext, length-raster}
-use Rattle.model.specs.Border.{Border}
-use Rattle.model.specs.Plane.{planeOf}
-use Rattle.recipe.specs.Stands.{borderIs}
 use Rattle.frame.specs.Padded.{padded}
 use Rattle.frame.proofs.Supplied.{padded-le}
 use Rattle.weighted.proofs.Model.{ready-light, level-model, made-small, made-level}
 use borrow.Author.Needs.{needs}
 use Rattle.weighted.proofs.weighted_stage.Statement.{statement}
 use Rattle.weighted.proofs.weighted_stage.Tie as tie
-use Rattle.weighted.proofs.columns.all_columns.Reads as all-columns-reads
-use Rattle.weighted.proofs.reach_of.Reads as reach-of-reads
-use Rattle.weighted.proofs.rows.all_rows.Reads as all-rows-reads
 
 module _ (first last h w n : ℕ) where
   -- the rows made are at most those lent
@@ -36,11 +31,6 @@ module _ (first last h w n : ℕ) where
     where
       fewer : (d : ℕ) → d ≤ 30 → h + d ≤ 8222
       fewer d e = omega (arith, e, a)
-
--- the samples supplied are bytes
-bytes : (b : Border) (value W H : ℕ) (plane : List ℕ) → value ≤ 255 → ((i : ℕ) → getD plane i 0 < 256) → (x y : ℕ) → padded b value W H (planeOf W plane) x y ≤ 255
-unfolding planeOf
-bytes b value W H plane h k x y = padded-le b value W H (planeOf W plane) x y h (λ u v. omega (arith, k (v * W + u)))
 
 -- the front of a buffer that rows were stored in
 take-rows : (g : ℕ → ℕ → ℤ) (w n : ℕ) (d l : List ℤ) → l ≡ raster g w n ++ drop (n * w) d → take (n * w) l ≡ raster g w n
@@ -58,15 +48,16 @@ add-count c = record { fits = omega (arith, c .reach-of .ensures .near, c .befor
 mul-n : tie.Need-mul-n
 mul-n c =
     let r = c .reach-of .result in
-    record { fits = omega (arith, small (r .first) (r .last) (c .before .before .args .h) (c .before .before .args .w) 0 (c .reach-of .ensures .near) (c .before .before .pre .0 .height .1) (c .before .before .pre .0 .width .1)) }
+    let f = c .before .before .args .frame in
+    record { fits = omega (arith, small (r .first) (r .last) (f .height) (f .width) 0 (c .reach-of .ensures .near) (c .before .before .pre .0 .height .1) (c .before .before .pre .0 .width .1)) }
 
 all-rows-requires : tie.Need-all-rows-requires
 all-rows-requires c κs =
-    let a = c .before .before .before .before .args in
+    let f = c .before .before .before .before .args .frame in
     let p = c .before .before .before .before .pre in
     let r = c .before .before .reach-of .result in
     let e = c .before .before .reach-of .ensures in
-    (p .0, e .own .0, omega (arith, e .near, p .0 .height .1), few-rows (r .first) (r .last) (a .h) (a .w) _ (e .near) (p .1), ready-light (p .2 .1))
+    (p .0, e .own .0, omega (arith, e .near, p .0 .height .1), few-rows (r .first) (r .last) (f .height) (f .width) _ (e .near) (p .1), ready-light (p .2 .1))
 
 slice-reshare-prefix-all-columns : tie.Need-slice-reshare-prefix-all-columns
 slice-reshare-prefix-all-columns c = rw (c .before .all-rows .ensures) (simp (length-append, length-raster) (omega arith))
@@ -77,9 +68,9 @@ slice-aggregate-all-columns c = rw (take-rows _ _ _ _ _ (c .before .before .all-
 all-columns-requires : tie.Need-all-columns-requires
 all-columns-requires c κs =
     let a = c .before .before .before .before .before .before .before .before .args in
+    let f = a .frame in
     let p = c .before .before .before .before .before .before .before .before .pre in
     let r = c .before .before .before .before .before .before .reach-of .result in
-    let g = padded (borderIs (a .border)) (a .value) (a .w) (a .h) (planeOf (a .w) (now (a .plane))) in
     let t = take-rows _ _ _ _ _ (c .before .before .before .all-rows .ensures) in (
       p .0 .width .1,
       p .0 .height .1,
@@ -87,8 +78,8 @@ all-columns-requires c κs =
       ready-light (p .3 .1),
       c .before .before .before .before .before .before .reach-of .ensures,
       rw t (length-raster _ _ _),
-      rw t (made-small (a .across .offsets) (a .down .offsets) (a .across .weights) (a .down .weights) (a .across .len) (a .down .len) (a .w) (a .h) (r .first) (r .last) g (ready-light (p .2 .1))
-          (bytes (borderIs (a .border)) (a .value) (a .w) (a .h) (now (a .plane)) (omega (arith, c .before .before .before .before .before .before .before .before .fits .value)) (λ i. c .before .before .before .before .before .before .before .slice-known .given i .fits))),
+      rw t (made-small (a .across) (a .down) (f .width) (f .height) (r .first) (r .last) (padded f (now (a .plane))) (ready-light (p .2 .1))
+          (λ x y. padded-le f (now (a .plane)) x y (omega (arith, c .before .before .before .before .before .before .before .before .good .0 .1 .1 .1 .0)) (λ i. omega (arith, c .before .before .before .before .before .before .before .slice-known .given i .fits)))),
     )
 
 same-length : tie.Need-same-length
@@ -98,14 +89,15 @@ same-length-2 : tie.Need-same-length-2
 same-length-2 c = search needs
 
 returns : tie.Need-returns
+unfolding worked
 returns c =
     let a = c .before .before .before .before .before .before .before .before .before .before .before .args in
+    let f = a .frame in
     let r = c .before .before .before .before .before .before .before .before .before .reach-of .result in
-    let g = padded (borderIs (a .border)) (a .value) (a .w) (a .h) (planeOf (a .w) (now (a .plane))) in
     let t = take-rows _ _ _ _ _ (c .before .before .before .before .before .before .all-rows .ensures) in
-    λ K L x y. c .before .before .all-columns .ensures ∙ raster-ext _ _ (a .w) (a .h) (λ u v bu bv. rw t
-    (made-level (a .across .offsets) (a .down .offsets) (a .across .weights) (a .down .weights) (a .across .len) (a .down .len) (a .w) (a .h) (r .first) (r .last) g (c .before .before .before .before .before .before .before .before .before .reach-of .ensures) u v bu bv
-    ∙ level-model x y (borderIs (a .border)) (a .value) (a .w) (a .h) (planeOf (a .w) (now (a .plane))) u v))
+    λ K L x y. c .before .before .all-columns .ensures ∙ raster-ext _ _ (f .width) (f .height) (λ u v bu bv. rw t
+    (made-level (a .across) (a .down) (f .width) (f .height) (r .first) (r .last) (padded f (now (a .plane))) (c .before .before .before .before .before .before .before .before .before .reach-of .ensures) u v bu bv
+    ∙ level-model x y f (now (a .plane)) u v))
 
 pub weighted-stage-spec : {M : Type 1} → statement M
 weighted-stage-spec =

@@ -1,7 +1,7 @@
 -- `weights::numerator` meets its contract. An f32 that is no NaN goes to an f64 as it is. Scaled by 2 ^ 35 it is a whole number up to 2 ^ 37, and not 0, so the cast is defined.
 -- Assumes nothing.
-use mathlib.Core.Path.{_≡_, sym, ap, _∙_, subst}
-use mathlib.Core.Bool.{Bool, false, not}
+use mathlib.Core.Path.{sym, ap, _∙_, subst}
+use mathlib.Core.Bool.{false, not}
 use lib.Dec.{T}
 use lib.IntN.{pos}
 use lib.Ieee.{Float, fin, fits, isNan, binary32, binary64, ofBits, toBits, mul, eq, inSigned, toSigned}

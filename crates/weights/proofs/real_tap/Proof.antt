@@ -1,11 +1,9 @@
 -- `weights::real_tap` meets its contract: an accepted pattern is no NaN's. Assumes nothing.
-use mathlib.Core.Path.{_≡_, sym, _∙_, subst}
 use Prim.Native.Nat.{_%_}
-use native.Mathlib.Omega.{arith}
 use lib.Ieee.{binary32}
 use lib.Ieee.Bits.{nanBits-above}
 use borrow.Author.Tests.{le-ltb}
-use Rattle.weights.proofs.Laws.{nan-refused, accepted-no-nan}
+use Rattle.weights.proofs.Laws.{accepted-no-nan}
 use borrow.Author.Needs.{needs}
 use Rattle.weights.proofs.real_tap.Statement.{statement}
 use Rattle.weights.proofs.real_tap.Tie as tie

@@ -1,0 +1,42 @@
+// What the five calls answer: a refusal's number, or what was asked for.
+
+// Read a still: its size, and the byte place where its raster starts.
+pub enum Still {
+    Refused(u8),
+    Picture {
+        width: usize,
+        height: usize,
+        channels: usize,
+        start: usize,
+    },
+}
+
+// Write a still: the output's length.
+pub enum Written {
+    Refused(u8),
+    Length(usize),
+}
+
+// Read a recipe: S and T.
+pub enum Recipe {
+    Refused(u8),
+    Stages { count: u8, tolerance: u64 },
+}
+
+// Filter a plane: T.
+pub enum Filtered {
+    Refused(u8),
+    Tolerance(u64),
+}
+
+// Filter a file: the picture's size, T and the output's length.
+pub enum File {
+    Refused(u8),
+    Picture {
+        width: usize,
+        height: usize,
+        channels: usize,
+        tolerance: u64,
+        len: usize,
+    },
+}

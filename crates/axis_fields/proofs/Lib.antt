@@ -1,0 +1,4 @@
+pub mod OffsetLaws
+pub mod RealLaws
+pub mod SizeLaws
+pub mod AxisPassed

@@ -1,0 +1,57 @@
+-- The fields of kinds 1 and 2, one run at a time: sizes, the offsets of an axis, weights.
+use Prim.Native.Nat.{ℕ, zero, suc, _*_, _^_}
+use mathlib.Core.Bool.{Bool, true, false, cond, _&&_}
+use mathlib.Core.List.{List, [], _∷_, _++_}
+use lib.ListN.{drop}
+use lib.Dec.{leb}
+use lib.IntN.{ℤ, pos, negℤ, _+ℤ_}
+use lib.Signed.{leZ}
+use Rattle.refusals.specs.Refusal as Refusal
+use Rattle.refusals.specs.Refusal.{Test}
+use Rattle.weights.specs.Bits.{accepted}
+use Rattle.recipe_bytes.specs.Bytes.{at, word, signed8, bits, there, field}
+
+-- "n, m (1 to 31)"
+unfoldable pub isCount : ℕ → Bool
+isCount n = leb 1 n && leb n 31
+
+-- reals: "n, m"; ratios: "n, m .., D horizontal, D vertical (unsigned 16 bits, not 0)": how many bytes, and the divisors
+unfoldable pub sizesLength : Bool → ℕ
+sizesLength real = cond real 2 6
+
+unfoldable pub divisorAt : Bool → ℕ → List ℕ → ℕ
+divisorAt real k b = cond real (2 ^ 35) (word b k)
+
+unfoldable pub sizeTests : Bool → List ℕ → List Test
+sizeTests true b = field b 1 (isCount (at b 0)) Refusal.count ++ field b 2 (isCount (at b 1)) Refusal.count
+sizeTests false b =
+    field b 1 (isCount (at b 0)) Refusal.count
+    ++ field b 2 (isCount (at b 1)) Refusal.count
+    ++ field b 4 (leb 1 (word b 2)) Refusal.count
+    ++ field b 6 (leb 1 (word b 4)) Refusal.count
+
+-- "Offsets are -15 to 15, strictly rising within an axis": k of them, the first at least `least`
+unfoldable pub offsetTests : ℤ → ℕ → List ℕ → List Test
+offsetTests least zero b = []
+offsetTests least (suc k) b =
+    there 1 b
+    ∷ (leZ least (signed8 (at b 0)) && leZ (signed8 (at b 0)) (pos 15), Refusal.offset)
+    ∷ offsetTests (signed8 (at b 0) +ℤ pos 1) k (drop 1 b)
+
+-- the offsets of one axis
+unfoldable pub axisTests : ℕ → List ℕ → List Test
+axisTests k b = offsetTests (negℤ (pos 15)) k b
+
+-- k weights of reals, each "0 or has magnitude 2^-12 to 4"
+unfoldable pub realTests : ℕ → List ℕ → List Test
+realTests zero b = []
+realTests (suc k) b = there 4 b ∷ (accepted (bits b 0), Refusal.realWeight) ∷ realTests k (drop 4 b)
+
+-- k weights: of ratios "signed 16 bits", all allowed
+unfoldable pub weightTests : Bool → ℕ → List ℕ → List Test
+weightTests true k b = realTests k b
+weightTests false k b = there (2 * k) b ∷ []
+
+-- how many bytes a weight has
+unfoldable pub weightLength : Bool → ℕ
+weightLength real = cond real 4 2

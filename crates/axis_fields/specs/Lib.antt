@@ -1,0 +1,2 @@
+-- The fields of an axis of weights, definitions only.
+pub mod AxisFields

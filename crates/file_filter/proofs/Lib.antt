@@ -1,0 +1,2 @@
+pub mod FilePromise
+pub mod Behind

@@ -1,4 +1,0 @@
-pub mod Suffices
-pub mod Through
-pub mod Promise
-pub mod Files

@@ -1,0 +1,2 @@
+pub mod PlaneAccepted
+pub mod FileAccepted

@@ -1,0 +1,2 @@
+-- The header that is written, definitions only.
+pub mod Heading

@@ -1,0 +1,2 @@
+-- Numerators as the code holds them, definitions only.
+pub mod Numerator

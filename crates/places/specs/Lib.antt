@@ -1,0 +1,2 @@
+-- The frame rule on one axis, definitions only.
+pub mod Supplied

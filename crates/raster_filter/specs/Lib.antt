@@ -1,0 +1,2 @@
+-- A raster that is filtered, definitions only.
+pub mod FilteredRaster

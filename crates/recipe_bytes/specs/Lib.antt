@@ -1,0 +1,2 @@
+-- Numbers in a recipe's bytes, definitions only.
+pub mod Bytes

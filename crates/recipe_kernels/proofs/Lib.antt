@@ -1,0 +1,2 @@
+pub mod AxisLaws
+pub mod GainLaws

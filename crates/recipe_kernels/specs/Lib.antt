@@ -1,0 +1,3 @@
+-- The kernels of a stage of weights, definitions only.
+pub mod Kernels
+pub mod Kept

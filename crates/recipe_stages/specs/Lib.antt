@@ -1,0 +1,2 @@
+-- The stages of a recipe's bytes, definitions only.
+pub mod StageBytes

@@ -1,0 +1,60 @@
+// A still that is read, written and read again.
+use answers::Still;
+use answers::Written;
+use trial::say;
+ghost use Rattle.io.specs.Counts.{Counts};
+
+fn show_read(bytes: &[u8]) {
+    match still_reader::read_still(bytes) {
+        Still::Refused(n) => say::refusal(n),
+        Still::Picture {
+            width,
+            height,
+            channels,
+            start,
+        } => {
+            say::picture(width, height, channels);
+            say::number(start as u64);
+        }
+    }
+    say::end();
+}
+
+// How many bytes a still has once it is written: 0 where it was refused.
+fn write_again(still: &[u8], out: &mut [u8]) -> usize
+    ensures { λ r. ⌜ Counts r (now (out .exit)) ⌝ }
+{
+    let Still::Picture {
+        width,
+        height,
+        channels,
+        start,
+    } = still_reader::read_still(still)
+    else {
+        return 0;
+    };
+    if start > still.len() {
+        return 0;
+    }
+    match still_writer::write_still(width, height, channels, &still[start..], out) {
+        Written::Refused(_) => 0,
+        Written::Length(n) => n,
+    }
+}
+
+// How many bytes were written, and their checksum, and what is read of them.
+pub fn show_written(written: &[u8]) {
+    say::text(b"  written");
+    say::number(written.len() as u64);
+    say::number(junk::checksum(written) as u64);
+    say::text(b"\n  again");
+    show_read(written);
+}
+
+// What is read of a still. How many bytes it has once it is written is given back: 0 where it was refused.
+pub fn reread(still: &[u8], out: &mut [u8]) -> usize
+    ensures { λ r. ⌜ Counts r (now (out .exit)) ⌝ }
+{
+    show_read(still);
+    write_again(still, out)
+}

@@ -1,0 +1,2 @@
+-- What must be lent, definitions only.
+pub mod Room

@@ -1,0 +1,2 @@
+-- The fields that stages share, definitions only.
+pub mod StageFields

@@ -1,2 +1,0 @@
--- What the stages of a recipe need, definitions only.
-pub mod Needs

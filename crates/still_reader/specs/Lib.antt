@@ -1,0 +1,2 @@
+-- What a still is read as, definitions only.
+pub mod Read

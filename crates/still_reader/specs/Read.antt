@@ -1,0 +1,42 @@
+-- What `read_still` answers.
+use Prim.Native.Nat.{ℕ, _+_, _-_, _*_}
+use mathlib.Core.Bool.{Bool, cond, _&&_}
+use mathlib.Core.List.{List, [], _∷_}
+use lib.ListN.{length, getD, drop}
+use lib.Dec.{leb, eqb}
+use Rattle.refusals.specs.Refusal as Refusal
+use Rattle.refusals.specs.Refusal.{Test, tested}
+use Rattle.answers.specs.declared.Still.{Still}
+use Rattle.answers.specs.declared.Still.the-variants.{Refused, Picture}
+use Rattle.header_reader.specs.Header.{Header, header}
+
+-- the channels that a magic's second byte stands for: 1 for the 5 of P5, 3 for the 6 of P6, 0 for any other
+unfoldable pub channelsOf : ℕ → ℕ
+channelsOf b = cond (eqb b 53) 1 (cond (eqb b 54) 3 0)
+
+-- "Width W and height H are 1 to 8,192"
+unfoldable pub isSide : ℕ → Bool
+isSide n = leb 1 n && leb n 8192
+
+-- the tests after the magic in their order, for a header of c channels and a raster of `rest` bytes:
+-- "A whole header is read before 3, then 4, 5, 6"
+unfoldable pub headerTests : ℕ → Header → ℕ → List Test
+headerTests c h rest =
+    (h .whole, Refusal.header)
+    ∷ (isSide (h .width) && isSide (h .height), Refusal.side)
+    ∷ (eqb (h .maximum) 255, Refusal.maximum)
+    ∷ (leb (h .width * h .height * c) rest, Refusal.rasterShort)
+    ∷ (leb rest (h .width * h .height * c), Refusal.rasterLong)
+    ∷ []
+
+-- the first: "the first two bytes are not P5 or P6, or there are fewer". Past the end stands 0, which is neither
+unfoldable pub magicTest : List ℕ → Test
+magicTest bytes = (eqb (getD bytes 0 0) 80 && leb 1 (channelsOf (getD bytes 1 0)), Refusal.magic)
+
+-- the answer for c channels and a header after the two magic bytes; `total` bytes in all. "One picture a file"
+unfoldable pub pictureOf : ℕ → Header → ℕ → Still
+pictureOf c h total = tested Refused (headerTests c h (total - (2 + h .size))) (Picture (h .width) (h .height) c (2 + h .size))
+
+-- width, height, channels "and the byte place where its raster starts", or a refusal
+unfoldable pub stillOf : List ℕ → Still
+stillOf bytes = tested Refused (magicTest bytes ∷ []) (pictureOf (channelsOf (getD bytes 1 0)) (header (drop 2 bytes)) (length bytes))

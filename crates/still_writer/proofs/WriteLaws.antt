@@ -1,0 +1,55 @@
+-- What passing the tests of `write_still` shows, and where the raster lies. Assumes nothing.
+use Prim.Native.Nat.{ℕ, _+_, _*_, _-_, _≤_}
+use native.Mathlib.Nat.{le-antisymm}
+use native.Mathlib.Omega.{arith}
+use mathlib.Core.Path.{_≡_, refl, sym, _∙_}
+use mathlib.Core.Bool.{Bool, true, false, _||_}
+use mathlib.Core.Logic.{_⊎_, inl, inr, ⊎-elim}
+use mathlib.Core.List.{List, _++_}
+use lib.ListN.{length, take, drop}
+use lib.Seq.{take-length}
+use lib.Dec.{eqb}
+use borrow.Author.Tests.{eqb-true, leb-true}
+use Rattle.lists.proofs.Part.{behind}
+use Rattle.refusals.proofs.Passed.{passed}
+use Rattle.still_reader.proofs.ReadLaws.{sides-le}
+use Rattle.header_writer.specs.Heading.{headerBytes}
+use Rattle.still_writer.specs.Write.{isChannels, writeTests, writtenOf}
+use Rattle.answers.specs.declared.Written.the-variants.{Refused, Length}
+
+pub channels-cases : (c : ℕ) → isChannels c ≡ true → (c ≡ 1) ⊎ (c ≡ 3)
+unfolding isChannels
+channels-cases c e = go (eqb c 1) (eqb c 3) refl refl e
+  where
+    go : (s t : Bool) → eqb c 1 ≡ s → eqb c 3 ≡ t → (s || t) ≡ true → (c ≡ 1) ⊎ (c ≡ 3)
+    go true t f g k = inl (eqb-true c 1 f)
+    go false true f g k = inr (eqb-true c 3 g)
+    go false false f g k = let z : _≡_ {A = ℕ} 0 1 = cc in absurd (omega arith)
+
+pub channels-few : (c : ℕ) → isChannels c ≡ true → c ≤ 3
+channels-few c e = ⊎-elim (λ f. omega arith) (λ f. omega arith) (channels-cases c e)
+
+-- what an answer with a length has passed
+pub record Accepted (w h c raster room n : ℕ) : Type 0 where
+  pub width : w ≤ 8192
+  pub height : h ≤ 8192
+  pub raster-is : raster ≡ w * h * c
+  pub fits : n ≤ room
+  pub length-is : n ≡ length (headerBytes w h c) + raster
+
+pub accepted : (w h c raster room : ℕ) {n : ℕ} → writtenOf w h c raster room ≡ Length n → Accepted w h c raster room n
+unfolding writtenOf writeTests
+accepted w h c raster room {n} e =
+    let p = passed Refused (writeTests w h c raster room) (Length (length (headerBytes w h c) + w * h * c)) (Length n) (λ k f. let z : _≡_ {A = ℕ} 0 1 = cc in omega arith) e in
+    let s = sides-le w h (p .0 .1 .0) in
+    let same : length (headerBytes w h c) + w * h * c ≡ n = let q = p .1 in cc in
+    let short = leb-true (w * h * c) raster (p .0 .1 .1 .0) in
+    let long = leb-true raster (w * h * c) (p .0 .1 .1 .1 .0) in
+    let room-enough = leb-true (length (headerBytes w h c) + w * h * c) room (p .0 .1 .1 .1 .1 .0) in
+    record { width = s .0 .1; height = s .1 .1; raster-is = le-antisymm long short; fits = omega arith; length-is = omega arith }
+
+-- a header in front, and a raster that was copied into the part behind it
+pub raster-behind : (head raster out one part : List ℕ) (start : ℕ) → start ≡ length head → one ≡ head ++ drop start out
+    → part ≡ take (length raster) raster ++ drop (length raster) (take (length one - start) (drop start one))
+    → take start one ++ (part ++ drop (length one - start) (drop start one)) ≡ head ++ (raster ++ drop (length head + length raster) out)
+raster-behind head raster out one part start e eo ep = behind head raster out one part start (length raster) (sym e) eo (rw (take-length raster) at ep) ∙ rw e

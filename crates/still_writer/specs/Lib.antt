@@ -1,0 +1,2 @@
+-- What a still is written as, definitions only.
+pub mod Write

@@ -1,0 +1,2 @@
+-- What must be lent for tables, definitions only.
+pub mod Needs

@@ -1,0 +1,2 @@
+pub mod SumLaws
+pub mod PartialSums

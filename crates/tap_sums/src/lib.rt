@@ -1,0 +1,1 @@
+// Sums by the taps of an axis: definitions and laws, no code.

@@ -1,0 +1,3 @@
+-- Taps from a recipe's bytes, definitions only.
+pub mod TapBytes
+pub mod Held

@@ -1,0 +1,2 @@
+-- What a caller in C or Rust is told, definitions only.
+pub mod Numbers

@@ -1,0 +1,84 @@
+// The calls' answers as numbers: the refusal's is given back, or 0 and the values in a lent array.
+use answers::File;
+use answers::Filtered;
+use answers::Recipe;
+use answers::Still;
+use answers::Written;
+ghost use Rattle.told.specs.Numbers.{Tells, stillTold, writtenTold, recipeTold, planeTold, fileTold};
+
+pub fn still(answer: Still, result: &mut [u64; 4]) -> u32
+    ensures { λ r. ⌜ Tells (stillTold answer) (now (result .entry)) (now (result .exit)) r ⌝ }
+{
+    match answer {
+        Still::Refused(n) => n as u32,
+        Still::Picture {
+            width,
+            height,
+            channels,
+            start,
+        } => {
+            *result = [width as u64, height as u64, channels as u64, start as u64];
+            0
+        }
+    }
+}
+
+pub fn written(answer: Written, result: &mut [u64; 1]) -> u32
+    ensures { λ r. ⌜ Tells (writtenTold answer) (now (result .entry)) (now (result .exit)) r ⌝ }
+{
+    match answer {
+        Written::Refused(n) => n as u32,
+        Written::Length(len) => {
+            *result = [len as u64];
+            0
+        }
+    }
+}
+
+pub fn recipe(answer: Recipe, result: &mut [u64; 2]) -> u32
+    ensures { λ r. ⌜ Tells (recipeTold answer) (now (result .entry)) (now (result .exit)) r ⌝ }
+{
+    match answer {
+        Recipe::Refused(n) => n as u32,
+        Recipe::Stages { count, tolerance } => {
+            *result = [count as u64, tolerance];
+            0
+        }
+    }
+}
+
+pub fn plane(answer: Filtered, result: &mut [u64; 1]) -> u32
+    ensures { λ r. ⌜ Tells (planeTold answer) (now (result .entry)) (now (result .exit)) r ⌝ }
+{
+    match answer {
+        Filtered::Refused(n) => n as u32,
+        Filtered::Tolerance(t) => {
+            *result = [t];
+            0
+        }
+    }
+}
+
+pub fn file(answer: File, result: &mut [u64; 5]) -> u32
+    ensures { λ r. ⌜ Tells (fileTold answer) (now (result .entry)) (now (result .exit)) r ⌝ }
+{
+    match answer {
+        File::Refused(n) => n as u32,
+        File::Picture {
+            width,
+            height,
+            channels,
+            tolerance,
+            len,
+        } => {
+            *result = [
+                width as u64,
+                height as u64,
+                channels as u64,
+                tolerance,
+                len as u64,
+            ];
+            0
+        }
+    }
+}

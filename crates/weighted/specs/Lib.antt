@@ -1,2 +1,0 @@
--- Sums by the taps that the code holds, definitions only.
-pub mod Held
