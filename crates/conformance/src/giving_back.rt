@@ -1,8 +1,7 @@
 // Windows of one sample give a still's samples back: the output is the still as it is written.
 use crate::calls;
-use crate::calls::Asked;
+use calling::Asked;
 use room::Lent;
-use trial::say;
 
 // What the program of document 01 lends.
 fn program() -> Lent {
@@ -15,13 +14,13 @@ fn program() -> Lent {
 }
 
 fn show_one(name: &[u8], recipe: &[u8], still: &[u8], written: &[u8]) {
-    say::text(name);
+    printing::text(name);
     calls::call(program(), Asked::File, recipe, still, written);
 }
 
 fn rank(still: &[u8], written: &[u8]) {
     show_one(
-        b"  rank",
+        b"  rank ",
         b"\x01\x05\x01\x00\x00\x00\x00\x01",
         still,
         written,
@@ -29,11 +28,11 @@ fn rank(still: &[u8], written: &[u8]) {
 }
 
 fn binomial(still: &[u8], written: &[u8]) {
-    show_one(b"  binomial", b"\x01\x03\x01\x00\x00\x00", still, written);
+    show_one(b"  binomial ", b"\x01\x03\x01\x00\x00\x00", still, written);
 }
 
 fn mean(still: &[u8], written: &[u8]) {
-    show_one(b"  box", b"\x01\x04\x01\x00\x00\x00", still, written);
+    show_one(b"  box ", b"\x01\x04\x01\x00\x00\x00", still, written);
 }
 
 pub fn show(still: &[u8], written: &[u8]) {

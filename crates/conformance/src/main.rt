@@ -6,22 +6,20 @@ mod calls;
 mod giving_back;
 
 use answers::Recipe;
-use calls::Asked;
+use calling::Asked;
 use room::Lent;
 use trial::files;
-use trial::say;
-use trial::words;
 
 fn show_recipe(bytes: &[u8]) {
     match recipe::read_recipe(bytes) {
-        Recipe::Refused(n) => say::refusal(n),
+        Recipe::Refused(n) => printing::refusal(n),
         Recipe::Stages { count, tolerance } => {
-            say::text(b" ok");
-            say::number(count as u64);
-            say::number(tolerance);
+            printing::text(b"ok");
+            printing::number(count as u64);
+            printing::number(tolerance);
         }
     }
-    say::end();
+    printing::end();
 }
 
 fn show_still(still: &[u8]) {
@@ -109,7 +107,8 @@ fn make(text: &[u8]) {
 fn show_argument(i: usize) {
     let mut text = io::buffer();
     let n = os::arg(i, &mut text);
-    say::text(&text[..n]);
+    printing::text(&text[..n]);
+    printing::text(b" ");
     make(&text[..n]);
 }
 

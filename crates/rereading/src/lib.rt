@@ -1,23 +1,22 @@
 // A still that is read, written and read again.
 use answers::Still;
 use answers::Written;
-use trial::say;
 ghost use Rattle.io.specs.Counts.{Counts};
 
 fn show_read(bytes: &[u8]) {
     match still_reader::read_still(bytes) {
-        Still::Refused(n) => say::refusal(n),
+        Still::Refused(n) => printing::refusal(n),
         Still::Picture {
             width,
             height,
             channels,
             start,
         } => {
-            say::picture(width, height, channels);
-            say::number(start as u64);
+            printing::picture(width, height, channels);
+            printing::number(start as u64);
         }
     }
-    say::end();
+    printing::end();
 }
 
 // How many bytes a still has once it is written: 0 where it was refused.
@@ -44,10 +43,10 @@ fn write_again(still: &[u8], out: &mut [u8]) -> usize
 
 // How many bytes were written, and their checksum, and what is read of them.
 pub fn show_written(written: &[u8]) {
-    say::text(b"  written");
-    say::number(written.len() as u64);
-    say::number(junk::checksum(written) as u64);
-    say::text(b"\n  again");
+    printing::text(b"  written");
+    printing::number(written.len() as u64);
+    printing::number(junk::checksum(written) as u64);
+    printing::text(b"\n  again ");
     show_read(written);
 }
 

@@ -1,5 +1,3 @@
-// What a program that tries the calls needs, and no call of the library: words, files, and lines on standard output.
+// What a program that tries the calls needs, and no call of the library: files, and what a call left in buffers.
 pub mod files;
 pub mod outcome;
-pub mod say;
-pub mod words;

@@ -1,18 +1,35 @@
 // What a filtering call answered, and what it left in buffers that held junk.
-use crate::say;
 use answers::File;
+
+// Whether the output is what is wanted.
+fn same(holds: bool) {
+    if holds {
+        printing::text(b" same");
+    } else {
+        printing::text(b" DIFFERS");
+    }
+}
+
+// Whether what was to stay has stayed.
+fn kept(holds: bool) {
+    if holds {
+        printing::text(b" kept");
+    } else {
+        printing::text(b" ALTERED");
+    }
+}
 
 // After a refusal all four buffers stay.
 fn refused(n: u8, work: &[u8], rows: &[i32], sums: &[u32], out: &[u8]) {
-    say::refusal(n);
-    say::kept(junk::all_kept(work, rows, sums, out));
+    printing::refusal(n);
+    kept(junk::all_kept(work, rows, sums, out));
 }
 
 // Else the output is as wanted, and its tail stays.
 fn filtered(tolerance: u64, len: usize, wanted: &[u8], out: &[u8]) {
-    say::number(tolerance);
-    say::same(len == wanted.len() && junk::front(out, wanted));
-    say::kept(junk::bytes_kept(out, len));
+    printing::number(tolerance);
+    same(len == wanted.len() && junk::front(out, wanted));
+    kept(junk::bytes_kept(out, len));
 }
 
 pub fn show(answer: File, wanted: &[u8], work: &[u8], rows: &[i32], sums: &[u32], out: &[u8]) {
@@ -25,9 +42,9 @@ pub fn show(answer: File, wanted: &[u8], work: &[u8], rows: &[i32], sums: &[u32]
             tolerance,
             len,
         } => {
-            say::picture(width, height, channels);
+            printing::picture(width, height, channels);
             filtered(tolerance, len, wanted, out);
         }
     }
-    say::end();
+    printing::end();
 }

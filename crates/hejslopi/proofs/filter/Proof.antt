@@ -26,8 +26,8 @@ filter-file-requires c κs = search needs
 enum-known-n : tie.Need-enum-known-n
 enum-known-n c = search needs
 
-refused-requires : tie.Need-refused-requires
-refused-requires c κs = search needs
+refusal-requires : tie.Need-refusal-requires
+refusal-requires c κs = search needs
 
 enum-known-width : tie.Need-enum-known-width
 enum-known-width c = search needs
@@ -48,11 +48,14 @@ slice-aggregate-save-2 c =
 save-requires : tie.Need-save-requires
 save-requires c κs = search needs
 
-accepted-requires : tie.Need-accepted-requires
-accepted-requires c κs = search needs
+picture-requires : tie.Need-picture-requires
+picture-requires c κs = search needs
 
-refused-requires-2 : tie.Need-refused-requires-2
-refused-requires-2 c κs = search needs
+number-requires : tie.Need-number-requires
+number-requires c κs = search needs
+
+refusal-requires-2 : tie.Need-refusal-requires-2
+refusal-requires-2 c κs = search needs
 
 returns : tie.Need-returns
 returns c = search needs
@@ -73,14 +76,15 @@ filter-spec =
     slice-aggregate-filter-file-4
     filter-file-requires
     enum-known-n
-    refused-requires
+    refusal-requires
     enum-known-width
     slice-aggregate-save
     array-share-prefix-out
     slice-aggregate-save-2
     save-requires
-    accepted-requires
-    refused-requires-2
+    picture-requires
+    number-requires
+    refusal-requires-2
     returns
     returns-2
     returns-3)

@@ -31,8 +31,8 @@ tested-requires c κs = search needs
 enum-known-n : tie.Need-enum-known-n
 enum-known-n c = search needs
 
-refused-requires : tie.Need-refused-requires
-refused-requires c κs = search needs
+refusal-requires : tie.Need-refusal-requires
+refusal-requires c κs = search needs
 
 enum-known-a : tie.Need-enum-known-a
 enum-known-a c = search needs
@@ -52,11 +52,11 @@ slice-aggregate-filter-2 c = sym (length-take-le _ _ (omega (arith, found-within
 filter-requires : tie.Need-filter-requires
 filter-requires c κs = search needs
 
+end-requires : tie.Need-end-requires
+end-requires c κs = search needs
+
 returns : tie.Need-returns
 returns c = search needs
-
-returns-2 : tie.Need-returns-2
-returns-2 c = search needs
 
 pub main-spec : {M : Type 1} → statement M
 main-spec =
@@ -70,12 +70,12 @@ main-spec =
     load-requires-2
     tested-requires
     enum-known-n
-    refused-requires
+    refusal-requires
     enum-known-a
     array-share-prefix-recipe
     slice-aggregate-filter
     array-share-prefix-still
     slice-aggregate-filter-2
     filter-requires
-    returns
-    returns-2)
+    end-requires
+    returns)

@@ -19,32 +19,14 @@ pub fn number(n: u64) {
 
 // A refusal by its number.
 pub fn refusal(n: u8) {
-    text(b" no");
+    text(b"no");
     number(n as u64);
 }
 
 // A picture by its size.
 pub fn picture(width: usize, height: usize, channels: usize) {
-    text(b" ok");
+    text(b"ok");
     number(width as u64);
     number(height as u64);
     number(channels as u64);
-}
-
-// Whether the output is what is wanted.
-pub fn same(holds: bool) {
-    if holds {
-        text(b" same");
-    } else {
-        text(b" DIFFERS");
-    }
-}
-
-// Whether what was to stay has stayed.
-pub fn kept(holds: bool) {
-    if holds {
-        text(b" kept");
-    } else {
-        text(b" ALTERED");
-    }
 }

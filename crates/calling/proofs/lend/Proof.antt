@@ -1,9 +1,9 @@
--- `conformance::calls::lend` is safe. Assumes nothing.
+-- `calling::lend` is safe. Assumes nothing.
 use mathlib.Core.Path.{sym}
 use lib.Seq.{length-take-le}
 use borrow.Author.Needs.{needs}
-use Rattle.conformance.proofs.calls.lend.Statement.{statement}
-use Rattle.conformance.proofs.calls.lend.Tie as tie
+use Rattle.calling.proofs.lend.Statement.{statement}
+use Rattle.calling.proofs.lend.Tie as tie
 
 slice-relend-prefix-ask : tie.Need-slice-relend-prefix-ask
 slice-relend-prefix-ask c = search needs

@@ -1,10 +1,10 @@
--- `trial::words::number` is safe and ends. Assumes nothing.
+-- `words::number` is safe and ends. Assumes nothing.
 use Prim.Native.Nat.{_≤_, _-_}
 use mathlib.Core.Logic.{⊎-elim}
 use lib.ListN.{length}
 use borrow.Author.Needs.{needs}
-use Rattle.trial.proofs.words.number.Statement.{statement}
-use Rattle.trial.proofs.words.number.Tie as tie
+use Rattle.words.proofs.number.Statement.{statement}
+use Rattle.words.proofs.number.Tie as tie
 
 abbrev Inv-loop : tie.InvT-loop
 Inv-loop text k blanks₀ value₀ i₀ blanks value i = (i ≤ length text) × (blanks ≤ i)

@@ -1,9 +1,9 @@
--- `trial::words::first` meets its contract. Assumes nothing.
+-- `words::first` meets its contract. Assumes nothing.
 use Prim.Native.Nat.{_≤_, _-_}
 use lib.ListN.{length}
 use borrow.Author.Needs.{needs}
-use Rattle.trial.proofs.words.first.Statement.{statement}
-use Rattle.trial.proofs.words.first.Tie as tie
+use Rattle.words.proofs.first.Statement.{statement}
+use Rattle.words.proofs.first.Tie as tie
 
 abbrev Inv-loop : tie.InvT-loop
 Inv-loop text i₀ i = i ≤ length text
