@@ -110,10 +110,13 @@ def sums_needed(recipe, width, height):
     need, at = 0, 1
     for _ in range(recipe[0]):
         kind, body = recipe[at], recipe[at + 3:]
+        taps = body[0] + body[1]
+        sizes = {1: 6 + 3 * taps, 2: 2 + 5 * taps, 3: 2, 4: 2, 5: 4}
+        if kind not in sizes:
+            raise ValueError("the library accepts stages of kind %d, and their length is not known here" % kind)
         if kind == 4:
             need = max(need, (width + 2 * body[0] + 1) * (height + 2 * body[1] + 1))
-        taps = body[0] + body[1]
-        at += 3 + {1: 6 + 3 * taps, 2: 2 + 5 * taps, 3: 2, 4: 2, 5: 4}[kind]
+        at += 3 + sizes[kind]
     return need
 
 
@@ -169,8 +172,10 @@ def _stage(stage):
     if kind in ("ratios", "reals"):
         return head + _weighted(stage, kind == "reals")
     radii = bytes([stage["across"], stage["down"]])
-    if kind != "rank":
+    if kind in ("binomial", "box"):
         return head + radii
+    if kind != "rank":
+        raise ValueError("a stage of kind %r has no bytes here" % kind)
     area = (2 * stage["across"] + 1) * (2 * stage["down"] + 1)
     named = {"smallest": 1, "median": (area + 1) // 2, "largest": area}
     position = named.get(stage["position"], stage["position"])

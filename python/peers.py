@@ -84,6 +84,10 @@ def units(taps):
     return q
 
 
+def unknown(kind):
+    sys.exit("benchmark: %r is no kind of stage that is compared" % kind)
+
+
 def document_01(stage, x):
     """A stage as document 01 has it, with the nearest border, in whole numbers. A median is sorted out in rows, to spare memory."""
     kind, what = stage
@@ -100,6 +104,8 @@ def document_01(stage, x):
         table = numpy.pad(padded.cumsum(0).cumsum(1), ((1, 0), (1, 0)))
         total = table[side:, side:] - table[:-side, side:] - table[side:, :-side] + table[:-side, :-side]
         return ((2 * total + side * side) // (2 * side * side)).astype(numpy.uint8)
+    if kind != "median":
+        unknown(kind)
     windows = numpy.lib.stride_tricks.sliding_window_view(padded.astype(numpy.uint8), (side, side))
     middle = side * side // 2
     return numpy.stack([numpy.partition(row.reshape(w, -1), middle, axis=1)[:, middle] for row in windows])
@@ -113,6 +119,8 @@ def by_opencv(stage):
         return lambda x: cv2.blur(x, side, borderType=edge)
     if kind == "median":
         return lambda x: cv2.medianBlur(x, 2 * what + 1)
+    if kind != "weights":
+        unknown(kind)
     if what in (binomial(1), binomial(2)):
         side = (len(what[0]), len(what[0]))
         return lambda x: cv2.GaussianBlur(x, side, 0, borderType=edge)
@@ -132,6 +140,8 @@ def by_scipy(stage):
         return box
     if kind == "median":
         return lambda x: ndimage.median_filter(x, 2 * what + 1, mode="nearest")
+    if kind != "weights":
+        unknown(kind)
     taps = numpy.array(what[0], numpy.float64) / what[1]
 
     def weights(x):

@@ -63,12 +63,15 @@ pub fn needs(recipe: &[u8], width: usize, height: usize) -> Result<Needs, Refusa
         at += match field(0) {
             1 => 9 + 3 * taps,
             2 => 5 + 5 * taps,
-            5 => 7,
+            3 => 5,
             4 => {
                 sums = sums.max((width + 2 * field(3) + 1) * (height + 2 * field(4) + 1));
                 5
             }
-            _ => 5,
+            5 => 7,
+            kind => panic!(
+                "the library accepts stages of kind {kind}, and `needs` has no length for them"
+            ),
         };
     }
     Ok(Needs {

@@ -333,7 +333,7 @@ impl Fields<'_> {
                 r: self.within(0, 15, 14)?,
                 s: self.within(0, 15, 14)?,
             },
-            _ => {
+            5 => {
                 let (r, s) = (self.within(0, 15, 14)?, self.within(0, 15, 14)?);
                 let p = self.take(2)? as i64;
                 if p < 1 || (2 * r + 1) * (2 * s + 1) < p {
@@ -341,6 +341,7 @@ impl Fields<'_> {
                 }
                 Work::Rank { r, s, p }
             }
+            _ => panic!("stages of kind {kind} pass the test of the kind and are not read"),
         };
         Ok(Stage {
             border,

@@ -100,36 +100,53 @@ fn reals(rng: &mut Rng, n: usize) -> Vec<u32> {
     weights
 }
 
+/// Counts, divisors of ratios, offsets and weights.
+fn weighted(rng: &mut Rng, bytes: &mut Vec<u8>, real: bool) {
+    let (n, m) = (count(rng, 1, 31), count(rng, 1, 31));
+    bytes.extend([n as u8, m as u8]);
+    let (across, down) = (ratios(rng, n), ratios(rng, m));
+    if !real {
+        bytes.extend(across.0.to_be_bytes());
+        bytes.extend(down.0.to_be_bytes());
+    }
+    for k in [n, m] {
+        bytes.extend(offsets(rng, k).iter().map(|o| *o as u8));
+    }
+    if real {
+        let weights: Vec<u32> = reals(rng, n).into_iter().chain(reals(rng, m)).collect();
+        bytes.extend(weights.iter().flat_map(|a| a.to_be_bytes()));
+    } else {
+        bytes.extend(across.1.iter().chain(&down.1).flat_map(|a| a.to_be_bytes()));
+    }
+}
+
+/// Radii, and how many samples a window has.
+fn radii(rng: &mut Rng, bytes: &mut Vec<u8>) -> usize {
+    let (r, s) = (count(rng, 0, 15), count(rng, 0, 15));
+    bytes.extend([r as u8, s as u8]);
+    (2 * r + 1) * (2 * s + 1)
+}
+
+fn position(rng: &mut Rng, bytes: &mut Vec<u8>, area: usize) {
+    let any = rng.size(1, area);
+    let p = rng.pick(&[1, area, (area + 1) / 2, any]);
+    bytes.extend((p as u16).to_be_bytes());
+}
+
 fn stage(rng: &mut Rng, bytes: &mut Vec<u8>) {
     let kind = rng.range(1, 5) as u8;
     let border = rng.range(0, 3) as u8;
     bytes.extend([kind, border, if border == 0 { rng.byte() } else { 0 }]);
-    if kind <= 2 {
-        let (n, m) = (count(rng, 1, 31), count(rng, 1, 31));
-        bytes.extend([n as u8, m as u8]);
-        let (across, down) = (ratios(rng, n), ratios(rng, m));
-        if kind == 1 {
-            bytes.extend(across.0.to_be_bytes());
-            bytes.extend(down.0.to_be_bytes());
+    match kind {
+        1 | 2 => weighted(rng, bytes, kind == 2),
+        3 | 4 => {
+            radii(rng, bytes);
         }
-        for k in [n, m] {
-            bytes.extend(offsets(rng, k).iter().map(|o| *o as u8));
+        5 => {
+            let area = radii(rng, bytes);
+            position(rng, bytes, area);
         }
-        if kind == 1 {
-            bytes.extend(across.1.iter().chain(&down.1).flat_map(|a| a.to_be_bytes()));
-        } else {
-            let weights: Vec<u32> = reals(rng, n).into_iter().chain(reals(rng, m)).collect();
-            bytes.extend(weights.iter().flat_map(|a| a.to_be_bytes()));
-        }
-        return;
-    }
-    let (r, s) = (count(rng, 0, 15), count(rng, 0, 15));
-    bytes.extend([r as u8, s as u8]);
-    if kind == 5 {
-        let area = (2 * r + 1) * (2 * s + 1);
-        let any = rng.size(1, area);
-        let p = rng.pick(&[1, area, (area + 1) / 2, any]);
-        bytes.extend((p as u16).to_be_bytes());
+        _ => panic!("no stage of kind {kind} is made"),
     }
 }
 
