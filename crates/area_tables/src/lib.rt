@@ -8,7 +8,8 @@ ghost use lib.ListN.{length, getD, take, drop};
 ghost use Rattle.integers.specs.Sum.{sum};
 ghost use Rattle.lists.specs.Tabulate.{tabulate, raster};
 ghost use Rattle.frame.specs.Framed.{Framed};
-ghost use Rattle.area_tables.specs.Table.{tableWidth, tableHeight, entry};
+ghost use Rattle.table_sizes.specs.TableSides.{tableWidth, tableHeight};
+ghost use Rattle.area_tables.specs.Table.{entry};
 
 // The first n entries set to 0.
 fn clear(table: &mut [u32], n: usize)

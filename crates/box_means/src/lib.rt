@@ -6,7 +6,8 @@ ghost use Prim.Native.Nat.{ℕ, _+_, _-_, _*_, _/_, _^_, _≤_, _<_};
 ghost use lib.ListN.{length, drop};
 ghost use Rattle.lists.specs.Tabulate.{tabulate, raster};
 ghost use Rattle.model.specs.Window.{area};
-ghost use Rattle.area_tables.specs.Table.{tableWidth, tableHeight, corners, cornersAt};
+ghost use Rattle.table_sizes.specs.TableSides.{tableWidth, tableHeight};
+ghost use Rattle.box_means.specs.Corners.{corners, cornersAt};
 
 // The sum of a window from its four corners. Entries are modulo 2^32, and so is this: a window's sum is smaller.
 fn window_sum(table: &[u32], below: usize, across: usize, u: usize) -> u32

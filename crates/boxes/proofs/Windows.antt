@@ -20,7 +20,9 @@ use Rattle.stage_values.specs.Stands.{borderIs}
 use Rattle.frame.specs.declared.Frame.{Frame}
 use Rattle.frame.specs.Framed.{neighbours, worked}
 use Rattle.frame.proofs.Supplied.{window-padded}
-use Rattle.area_tables.specs.Table.{tableWidth, tableHeight, extended, entry, corners, cornersAt}
+use Rattle.table_sizes.specs.TableSides.{tableWidth, tableHeight}
+use Rattle.area_tables.specs.Table.{extended, entry}
+use Rattle.box_means.specs.Corners.{corners, cornersAt}
 use Rattle.area_tables.proofs.Sums.{window-total}
 use Rattle.box_means.proofs.Corners.{difference-is-sum}
 use Rattle.box_means.proofs.Sizes.{area-small}

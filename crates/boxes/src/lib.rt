@@ -6,7 +6,7 @@ ghost use Prim.Native.Nat.{_*_, _≤_};
 ghost use lib.ListN.{length};
 ghost use Rattle.model.specs.Box.{boxResult};
 ghost use Rattle.frame.specs.Framed.{Framed, worked};
-ghost use Rattle.area_tables.specs.Table.{tableWidth, tableHeight};
+ghost use Rattle.table_sizes.specs.TableSides.{tableWidth, tableHeight};
 
 // A box stage on a plane, in place: the table holds what it needs of the samples before.
 pub fn box_stage(frame: Frame, window: Window, plane: &mut [u8], table: &mut [u32])

@@ -20,7 +20,7 @@ use Rattle.stage_values.specs.declared.Stage.{Stage}
 use Rattle.stage_values.specs.Stands.{Does, Stands}
 use Rattle.frame.specs.declared.Frame.{Frame}
 use Rattle.frame.specs.Framed.{Framed, worked}
-use Rattle.area_tables.specs.Table.{tableWidth, tableHeight}
+use Rattle.table_sizes.specs.TableSides.{tableWidth, tableHeight}
 use Rattle.table_sizes.specs.Needs.{tableSize}
 
 -- a plane that was put in place of the front

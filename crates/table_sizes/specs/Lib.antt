@@ -1,2 +1,3 @@
 -- What must be lent for tables, definitions only.
+pub mod TableSides
 pub mod Needs

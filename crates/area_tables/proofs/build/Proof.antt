@@ -9,7 +9,8 @@ use denote.Ref.{now}
 use Rattle.lists.specs.Tabulate.{raster}
 use Rattle.lists.proofs.Part.{tail-mid}
 use Rattle.lists.proofs.Raster.{row-fits}
-use Rattle.area_tables.specs.Table.{tableWidth, tableHeight, entry}
+use Rattle.table_sizes.specs.TableSides.{tableWidth, tableHeight}
+use Rattle.area_tables.specs.Table.{entry}
 use Rattle.area_tables.proofs.Rows.{front-entry, table-more, first-row, past-cleared, row-after}
 use Rattle.area_tables.proofs.Entries.{entry-none}
 use borrow.Author.Needs.{needs}

@@ -7,7 +7,7 @@ use lib.ListN.{length, take, drop, length-drop}
 use denote.Ref.{now}
 use Rattle.lists.proofs.Part.{tail-mid}
 use Rattle.lists.proofs.Tabulate.{tabulate-ext}
-use Rattle.area_tables.specs.Table.{tableWidth}
+use Rattle.table_sizes.specs.TableSides.{tableWidth}
 use Rattle.area_tables.proofs.Entries.{entry-more}
 use borrow.Author.Needs.{needs}
 use Rattle.area_tables.proofs.next_row.Statement.{statement}

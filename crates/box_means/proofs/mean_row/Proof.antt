@@ -2,7 +2,7 @@
 use Prim.Native.Nat.{ℕ, _+_, _*_, _-_, _/_}
 use mathlib.Core.Path.{ap, _∙_}
 use Rattle.lists.proofs.Stored.{Stored, stored-none, stored-more, stored-done}
-use Rattle.area_tables.specs.Table.{corners}
+use Rattle.box_means.specs.Corners.{corners}
 use borrow.Author.Needs.{needs}
 use Rattle.box_means.proofs.mean_row.Statement.{statement}
 use Rattle.box_means.proofs.mean_row.Tie as tie

@@ -1,7 +1,7 @@
 -- `box_means::window_sum` meets its contract. Assumes nothing.
 use Prim.Native.Nat.{_+_}
 use native.Mathlib.Omega.{arith}
-use Rattle.area_tables.specs.Table.{corners}
+use Rattle.box_means.specs.Corners.{corners}
 use Rattle.box_means.proofs.Corners.{three-differences}
 use borrow.Author.Needs.{needs}
 use Rattle.box_means.proofs.window_sum.Statement.{statement}

@@ -1,0 +1,2 @@
+-- Windows in a summed-area table, definitions only.
+pub mod Corners
