@@ -1,10 +1,50 @@
 // One filtering call on buffers that hold junk.
-use calling::Asked;
+use answers::File;
+use answers::Filtered;
 use room::Lent;
 use trial::outcome;
 
+// Which call is made on some bytes: on a file's, or on the samples of a plane with these sides.
+pub enum Asked {
+    File,
+    Plane(usize, usize),
+}
+
+// A plane is a picture of one channel, whose output is as long as its samples.
+fn as_file(width: usize, height: usize, len: usize, answer: Filtered) -> File {
+    match answer {
+        Filtered::Refused(n) => File::Refused(n),
+        Filtered::Tolerance(tolerance) => File::Picture {
+            width,
+            height,
+            channels: 1,
+            tolerance,
+            len,
+        },
+    }
+}
+
+fn ask(
+    asked: Asked,
+    recipe: &[u8],
+    bytes: &[u8],
+    work: &mut [u8],
+    rows: &mut [i32],
+    sums: &mut [u32],
+    out: &mut [u8],
+) -> File {
+    match asked {
+        Asked::File => file_filter::filter_file(recipe, bytes, work, rows, sums, out),
+        Asked::Plane(w, h) => as_file(
+            w,
+            h,
+            bytes.len(),
+            plane_filter::filter_plane(recipe, w, h, bytes, work, rows, sums, out),
+        ),
+    }
+}
+
 fn call_on(
-    lent: Lent,
     asked: Asked,
     recipe: &[u8],
     bytes: &[u8],
@@ -15,25 +55,30 @@ fn call_on(
     out: &mut [u8],
 ) {
     junk::fill(work, rows, sums, out);
-    let answer = calling::lend(lent, asked, recipe, bytes, work, rows, sums, out);
+    let answer = ask(asked, recipe, bytes, work, rows, sums, out);
     outcome::show(answer, wanted, work, rows, sums, out);
 }
 
-// One call, its answer and what it left.
+// One call, its answer and what it left. More than the program of document 01 lends is not lent: the line then lacks an answer.
 pub fn call(lent: Lent, asked: Asked, recipe: &[u8], bytes: &[u8], wanted: &[u8]) {
     let mut work = [0u8; 32768];
     let mut rows = [0i32; 16384];
     let mut sums = [0u32; 16384];
     let mut out = [0u8; 65536];
-    call_on(
-        lent,
-        asked,
-        recipe,
-        bytes,
-        wanted,
-        &mut work,
-        &mut rows,
-        &mut sums,
-        &mut out,
-    );
+    let a = lent.works;
+    let b = lent.rows;
+    let c = lent.sums;
+    let d = lent.out;
+    if a <= 32768 && b <= 16384 && c <= 16384 && d <= 65536 {
+        call_on(
+            asked,
+            recipe,
+            bytes,
+            wanted,
+            &mut work[..a],
+            &mut rows[..b],
+            &mut sums[..c],
+            &mut out[..d],
+        );
+    }
 }

@@ -1,12 +1,11 @@
 // Makes the call that each argument describes on the files that it names, and prints what the call answers and leaves.
-// `PATH still` reads a still, writes it and filters it; `PATH recipe` reads a recipe. `FOLDER file LENT` filters a folder's `still` by its `recipe`, and
-// `FOLDER plane LENT W H FROM SKIP` what that still has from place FROM on. The output has to be the folder's `out`, without its first SKIP bytes.
-// LENT are four lengths: work bytes, row values, sums and output bytes.
+// `PATH still` reads a still, writes it and reads it again; `PATH recipe` reads a recipe. `PATH back LENT RECIPE` filters a still by a recipe that gives it back.
+// `FOLDER file LENT` filters a folder's `still` by its `recipe`, and `FOLDER plane LENT W H FROM SKIP` what that still has from place FROM on. The output has to
+// be the folder's `out`, without its first SKIP bytes. LENT are four lengths: work bytes, row values, sums and output bytes.
 mod calls;
-mod giving_back;
 
 use answers::Recipe;
-use calling::Asked;
+use calls::Asked;
 use room::Lent;
 use trial::files;
 
@@ -20,59 +19,6 @@ fn show_recipe(bytes: &[u8]) {
         }
     }
     printing::end();
-}
-
-fn show_still(still: &[u8]) {
-    let mut out = io::large_buffer();
-    let n = rereading::reread(still, &mut out);
-    if n > 0 {
-        rereading::show_written(&out[..n]);
-        giving_back::show(still, &out[..n]);
-    }
-}
-
-fn show_bytes(kind: u8, path: &[u8]) {
-    let mut bytes = io::large_buffer();
-    let n = files::load(path, b"", &mut bytes);
-    if kind == b's' {
-        show_still(&bytes[..n]);
-    } else {
-        show_recipe(&bytes[..n]);
-    }
-}
-
-fn filter_part(
-    lent: Lent,
-    asked: Asked,
-    recipe: &[u8],
-    still: &[u8],
-    from: usize,
-    out: &[u8],
-    skip: usize,
-) {
-    if from <= still.len() {
-        if skip <= out.len() {
-            calls::call(lent, asked, recipe, &still[from..], &out[skip..]);
-        }
-    }
-}
-
-fn filter(lent: Lent, asked: Asked, folder: &[u8], from: usize, skip: usize) {
-    let mut recipe = io::buffer();
-    let mut still = io::large_buffer();
-    let mut out = io::large_buffer();
-    let a = files::recipe(folder, &mut recipe);
-    let b = files::still(folder, &mut still);
-    let c = files::output(folder, &mut out);
-    filter_part(
-        lent,
-        asked,
-        &recipe[..a],
-        &still[..b],
-        from,
-        &out[..c],
-        skip,
-    );
 }
 
 fn asked(text: &[u8], kind: u8) -> Asked {
@@ -91,17 +37,50 @@ fn lent(text: &[u8]) -> Lent {
     }
 }
 
-// A path, the kind of the call by its first letter, and numbers.
+fn show_bytes(kind: u8, path: &[u8]) {
+    let mut bytes = io::large_buffer();
+    let n = files::load(path, b"", 0, &mut bytes);
+    if kind == b's' {
+        rereading::show(&bytes[..n]);
+    } else {
+        show_recipe(&bytes[..n]);
+    }
+}
+
+// A recipe with windows of one sample gives a still's samples back: the output is the still as it is written.
+fn give_back(text: &[u8], path: &[u8]) {
+    let mut recipe = io::buffer();
+    let mut still = io::large_buffer();
+    let mut out = io::large_buffer();
+    let a = files::load(&text[words::after(text, 6)..], b"", 0, &mut recipe);
+    let b = files::load(path, b"", 0, &mut still);
+    let c = rereading::write_again(&still[..b], &mut out);
+    calls::call(lent(text), Asked::File, &recipe[..a], &still[..b], &out[..c]);
+}
+
+// A folder's still, or its plane.
+fn filter(text: &[u8], folder: &[u8], asked: Asked) {
+    let mut recipe = io::buffer();
+    let mut still = io::large_buffer();
+    let mut out = io::large_buffer();
+    let a = files::recipe(folder, &mut recipe);
+    let b = files::still(folder, words::number(text, 8), &mut still);
+    let c = files::output(folder, words::number(text, 9), &mut out);
+    calls::call(lent(text), asked, &recipe[..a], &still[..b], &out[..c]);
+}
+
+// A path, the kind of the call by its first letter, and what the call needs.
 fn make(text: &[u8]) {
     let end = words::first(text);
+    let path = &text[..end];
     let kind = words::letter(text, end);
     if kind == b's' || kind == b'r' {
-        show_bytes(kind, &text[..end]);
-        return;
+        show_bytes(kind, path);
+    } else if kind == b'b' {
+        give_back(text, path);
+    } else {
+        filter(text, path, asked(text, kind));
     }
-    let from = words::number(text, 8);
-    let skip = words::number(text, 9);
-    filter(lent(text), asked(text, kind), &text[..end], from, skip);
 }
 
 fn show_argument(i: usize) {

@@ -20,7 +20,7 @@ fn show_read(bytes: &[u8]) {
 }
 
 // How many bytes a still has once it is written: 0 where it was refused.
-fn write_again(still: &[u8], out: &mut [u8]) -> usize
+pub fn write_again(still: &[u8], out: &mut [u8]) -> usize
     ensures { λ r. ⌜ Counts r (now (out .exit)) ⌝ }
 {
     let Still::Picture {
@@ -42,7 +42,7 @@ fn write_again(still: &[u8], out: &mut [u8]) -> usize
 }
 
 // How many bytes were written, and their checksum, and what is read of them.
-pub fn show_written(written: &[u8]) {
+fn show_written(written: &[u8]) {
     printing::text(b"  written");
     printing::number(written.len() as u64);
     printing::number(junk::checksum(written) as u64);
@@ -50,10 +50,12 @@ pub fn show_written(written: &[u8]) {
     show_read(written);
 }
 
-// What is read of a still. How many bytes it has once it is written is given back: 0 where it was refused.
-pub fn reread(still: &[u8], out: &mut [u8]) -> usize
-    ensures { λ r. ⌜ Counts r (now (out .exit)) ⌝ }
-{
+// What is read of a still and, where it is accepted, of the still that is written of it.
+pub fn show(still: &[u8]) {
     show_read(still);
-    write_again(still, out)
+    let mut out = io::large_buffer();
+    let n = write_again(still, &mut out);
+    if n > 0 {
+        show_written(&out[..n]);
+    }
 }

@@ -25,11 +25,20 @@ fn open(folder: &[u8], name: &[u8]) -> i32 {
     os::open_read(&path[..n])
 }
 
-// How many bytes of a file were read: 0 where there is no such file.
-pub fn load(folder: &[u8], name: &[u8], bytes: &mut [u8]) -> usize
+// Reads the first bytes of a file, to be forgotten.
+fn skip(fd: i32, from: usize, bytes: &mut [u8]) {
+    if bytes.len() < from {
+        return;
+    }
+    io::read_full(fd, &mut bytes[..from]);
+}
+
+// How many bytes of a file were read from a place on: 0 where there is no such file.
+pub fn load(folder: &[u8], name: &[u8], from: usize, bytes: &mut [u8]) -> usize
     ensures { λ r. ⌜ Counts r (now (bytes .exit)) ⌝ }
 {
     let fd = open(folder, name);
+    skip(fd, from, bytes);
     let n = io::read_full(fd, bytes);
     libc::close(fd);
     n
@@ -39,19 +48,19 @@ pub fn load(folder: &[u8], name: &[u8], bytes: &mut [u8]) -> usize
 pub fn recipe(folder: &[u8], bytes: &mut [u8]) -> usize
     ensures { λ r. ⌜ Counts r (now (bytes .exit)) ⌝ }
 {
-    load(folder, b"recipe", bytes)
+    load(folder, b"recipe", 0, bytes)
 }
 
-// The still of a folder.
-pub fn still(folder: &[u8], bytes: &mut [u8]) -> usize
+// The still of a folder, from a place on.
+pub fn still(folder: &[u8], from: usize, bytes: &mut [u8]) -> usize
     ensures { λ r. ⌜ Counts r (now (bytes .exit)) ⌝ }
 {
-    load(folder, b"still", bytes)
+    load(folder, b"still", from, bytes)
 }
 
-// The output that a folder's still has to give.
-pub fn output(folder: &[u8], bytes: &mut [u8]) -> usize
+// The output that a folder's still has to give, from a place on.
+pub fn output(folder: &[u8], from: usize, bytes: &mut [u8]) -> usize
     ensures { λ r. ⌜ Counts r (now (bytes .exit)) ⌝ }
 {
-    load(folder, b"out", bytes)
+    load(folder, b"out", from, bytes)
 }

@@ -28,6 +28,24 @@ pub fn letter(text: &[u8], end: usize) -> u8 {
     0
 }
 
+// The place after k blanks, or the end.
+pub fn after(text: &[u8], k: usize) -> usize
+    ensures { λ r. ⌜ r ≤ length (now (text .entry)) ⌝ }
+{
+    let mut blanks = 0;
+    let mut i = 0;
+    while i < text.len() {
+        if blanks == k {
+            return i;
+        }
+        if text[i] == BLANK {
+            blanks += 1;
+        }
+        i += 1;
+    }
+    i
+}
+
 // A number of up to nine digits with one byte more. Other bytes, as the LF of a line, are passed over.
 fn with_digit(value: usize, b: u8) -> usize {
     if b < 48 {
