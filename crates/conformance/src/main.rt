@@ -55,7 +55,13 @@ fn give_back(text: &[u8], path: &[u8]) {
     let a = files::load(&text[words::after(text, 6)..], b"", 0, &mut recipe);
     let b = files::load(path, b"", 0, &mut still);
     let c = rereading::write_again(&still[..b], &mut out);
-    calls::call(lent(text), Asked::File, &recipe[..a], &still[..b], &out[..c]);
+    calls::call(
+        lent(text),
+        Asked::File,
+        &recipe[..a],
+        &still[..b],
+        &out[..c],
+    );
 }
 
 // A folder's still, or its plane.
