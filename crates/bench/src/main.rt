@@ -14,13 +14,12 @@ fn compare(found: i32, wanted: i32) {
     }
 }
 
-// A stage of three ratios over 3 at -1 0 1 across, and 1 over 1 at 0 down: its weights across, against three that are wanted.
-fn show(stage: &[u8], a: i32, b: i32, c: i32) {
-    match recipe_stages::tests(stage) {
+// A stage of ratios after its header bytes, three over 3 at -1 0 1 across and 1 over 1 at 0 down: its weights across, against three that are wanted.
+fn show(part: &[u8], a: i32, b: i32, c: i32) {
+    match recipe_kernels::tests(part, false) {
         Verdict::Refused(_) => say(b" refused"),
         Verdict::Passed => {
-            let read = recipe_stages::read_stage(stage);
-            let axis = read.across;
+            let axis = kernels::axis_of(recipe_kernels::kernel_on(part, false, 0));
             let weights = axis.weights;
             compare(weights[0], a);
             compare(weights[1], b);
@@ -33,14 +32,14 @@ fn show(stage: &[u8], a: i32, b: i32, c: i32) {
 fn main() {
     say(b"1 1 1 over 3: 21846 21845 21845");
     show(
-        b"\x01\x01\x00\x03\x01\x00\x03\x00\x01\xff\x00\x01\x00\x00\x01\x00\x01\x00\x01\x00\x01",
+        b"\x03\x01\x00\x03\x00\x01\xff\x00\x01\x00\x00\x01\x00\x01\x00\x01\x00\x01",
         21846,
         21845,
         21845,
     );
     say(b"-1 -1 5 over 3: -21845 -21845 109226");
     show(
-        b"\x01\x01\x00\x03\x01\x00\x03\x00\x01\xff\x00\x01\x00\xff\xff\xff\xff\x00\x05\x00\x01",
+        b"\x03\x01\x00\x03\x00\x01\xff\x00\x01\x00\xff\xff\xff\xff\x00\x05\x00\x01",
         -21845,
         -21845,
         109226,

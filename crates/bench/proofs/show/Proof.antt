@@ -1,5 +1,9 @@
--- `bench::show` keeps to what the stage's reader requires, is safe and ends. Assumes nothing.
+-- `bench::show` keeps to what the kernel's reader requires, is safe and ends. Assumes nothing.
+use native.Mathlib.Omega.{arith}
 use mathlib.Core.Path.{sym, _∙_}
+use mathlib.Core.Bool.{false}
+use denote.Ref.{now}
+use Rattle.recipe_kernels.proofs.GainLaws.{taps-part, axis-limits}
 use borrow.Author.Needs.{needs}
 use Rattle.bench.proofs.show.Statement.{statement}
 use Rattle.bench.proofs.show.Tie as tie
@@ -19,8 +23,11 @@ say-requires c κs = search needs
 enum-told-2 : tie.Need-enum-told-2
 enum-told-2 c = search needs
 
-read-stage-requires : tie.Need-read-stage-requires
-read-stage-requires c κs = sym (c .before .before .tests .ensures) ∙ c .enum-told2 .given .1
+kernel-on-requires : tie.Need-kernel-on-requires
+kernel-on-requires c κs = (omega arith, taps-part false (now (c .before .before .before .before .args .part)) (sym (c .before .before .tests .ensures) ∙ c .enum-told2 .given .1))
+
+axis-of-requires : tie.Need-axis-of-requires
+axis-of-requires c κs = axis-limits false (now (c .before .before .before .before .before .args .part)) (λ i. c .before .before .before .before .shared-slice-known .given i .fits) (sym (c .before .before .before .tests .ensures) ∙ c .before .enum-told2 .given .1) 0 (omega arith) (c .kernel-on .ensures .0) (c .kernel-on .ensures .1)
 
 array-copy-out-compare : tie.Need-array-copy-out-compare
 array-copy-out-compare c = search needs
@@ -58,7 +65,8 @@ show-spec =
     slice-aggregate-say
     say-requires
     enum-told-2
-    read-stage-requires
+    kernel-on-requires
+    axis-of-requires
     array-copy-out-compare
     compare-requires
     array-copy-out-compare-2
