@@ -1,2 +1,2 @@
--- Windows in a summed-area table, definitions only.
-pub mod Corners
+-- Windows in a whole summed-area table, definitions only.
+pub mod WindowCorners

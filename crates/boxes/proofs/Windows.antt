@@ -22,9 +22,10 @@ use Rattle.frame.specs.Framed.{neighbours, worked}
 use Rattle.frame.proofs.Supplied.{window-padded}
 use Rattle.table_sizes.specs.TableSides.{tableWidth, tableHeight}
 use Rattle.area_tables.specs.Table.{extended, entry}
-use Rattle.box_means.specs.Corners.{corners, cornersAt}
+use Rattle.mean_rows.specs.Corners.{corners}
+use Rattle.box_means.specs.WindowCorners.{cornersAt}
 use Rattle.area_tables.proofs.Sums.{window-total}
-use Rattle.box_means.proofs.Corners.{difference-is-sum}
+use Rattle.mean_rows.proofs.Corners.{difference-is-sum}
 use Rattle.box_means.proofs.Sizes.{area-small}
 
 module _ (f : Frame) (w : Window) (samples : List ℕ) (hr : w .r ≤ 15) (hs : w .s ≤ 15) where

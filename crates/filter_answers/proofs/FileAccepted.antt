@@ -14,8 +14,7 @@ use Rattle.model.specs.Tolerance.{tolerance}
 use Rattle.answers.specs.declared.Still.{Still}
 use Rattle.answers.specs.declared.Still.the-variants as Still
 use Rattle.still_reader.specs.Read.{stillOf}
-use Rattle.still_reader.proofs.ReadLaws.{side-le, size-small}
-use Rattle.still_writer.proofs.WriteLaws.{channels-cases, channels-few}
+use Rattle.picture_sizes.proofs.SizeLaws.{side-le, size-small, channels-cases, channels-few}
 use Rattle.round_trip.proofs.RoundTrip.{picture-valid}
 use Rattle.answers.specs.declared.Recipe.the-variants as Recipe
 use Rattle.recipe.proofs.Accepted.{recipe-refused}

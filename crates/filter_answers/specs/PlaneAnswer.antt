@@ -6,7 +6,7 @@ use lib.Dec.{leb, eqb}
 use Rattle.refusals.specs.Refusal as Refusal
 use Rattle.refusals.specs.Refusal.{Test, tested}
 use Rattle.model.specs.Tolerance.{tolerance}
-use Rattle.still_reader.specs.Read.{isSide}
+use Rattle.picture_sizes.specs.PictureSize.{isSide}
 use Rattle.recipe_bytes.specs.Bytes.{at}
 use Rattle.recipe.specs.Recipe.{recipeTests, recipeStages}
 use Rattle.answers.specs.declared.Filtered.{Filtered}

@@ -22,8 +22,8 @@ fn plane_tests(recipe: &[u8], w: usize, h: usize, samples: usize, lent: Lent) ->
     if recipe[0] != 1 {
         return Verdict::Refused(refusals::COUNT);
     }
-    if still_reader::is_side(w) {
-        if still_reader::is_side(h) {
+    if picture_sizes::is_side(w) {
+        if picture_sizes::is_side(h) {
             let size = w * h;
             if samples < size {
                 return Verdict::Refused(refusals::RASTER_SHORT);

@@ -26,7 +26,7 @@ use Rattle.stage_values.specs.Place.{offsetOf}
 use Rattle.numerators.specs.Numerator.{numeratorOf, remainderOf}
 use Rattle.kernels.specs.Kernel.{tapOf, kernelOf, Limits}
 use Rattle.stage_values.specs.Ready.{Ready}
-use Rattle.spare_units.specs.Order.{before}
+use Rattle.unit_order.specs.Order.{before}
 use Rattle.lists.proofs.Sums.{map-tabulate}
 
 -- ---- each numerator is within the gain

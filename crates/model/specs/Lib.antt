@@ -8,7 +8,7 @@
 -- and from the toolchain: an integer is `pos n` or `negsuc n`, which is -(n + 1); `getD xs k d` is entry k of xs, from 0, or d past the end.
 --
 -- Left to the recipe's reader: the numbers of kinds and borders, binary32 weights, and the limits (taps, radii, gain). The limit on the sides is
--- `isSide` of the still's reader (crates/still_reader/specs/Read.antt).
+-- `isSide` (crates/picture_sizes/specs/PictureSize.antt).
 pub mod Border
 pub mod Plane
 pub mod Kernel

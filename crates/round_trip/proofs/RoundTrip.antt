@@ -15,11 +15,11 @@ use Rattle.text.specs.Text.{isSpace, gap, isDigit, digits, valueFrom, value}
 use Rattle.header_reader.specs.Header as Spec
 use Rattle.header_reader.specs.Header.{fieldAfter, field, headerOf, heightField, maximumField, header}
 use Rattle.header_reader.specs.Answers.{wholeHeader}
-use Rattle.still_reader.specs.Read.{channelsOf, isSide, headerTests, magicTest, pictureOf, stillOf}
+use Rattle.picture_sizes.specs.PictureSize.{isSide, isChannels}
+use Rattle.still_reader.specs.Read.{channelsOf, headerTests, magicTest, pictureOf, stillOf}
 use Rattle.header_writer.specs.Heading.{decimalIn, decimal, magicLine, headerBytes}
-use Rattle.still_writer.specs.Write.{isChannels}
 use Rattle.answers.specs.declared.Still.the-variants.{Refused, Picture}
-use Rattle.still_writer.proofs.WriteLaws.{channels-cases}
+use Rattle.picture_sizes.proofs.SizeLaws.{channels-cases}
 
 -- ---- decimal digits are digits, at least one, and have their number's value
 

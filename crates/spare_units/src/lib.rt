@@ -9,7 +9,7 @@ ghost use Rattle.integers.specs.Sum.{sum};
 ghost use Rattle.lists.specs.Tabulate.{tabulate};
 ghost use Rattle.lists.specs.Count.{count};
 ghost use Rattle.numerators.specs.Numerator.{numeratorOf, remainderOf};
-ghost use Rattle.spare_units.specs.Order.{before};
+ghost use Rattle.unit_order.specs.Order.{before};
 
 // The remainders of the first n taps.
 pub fn remainders(values: &[u64], n: usize, divisor: u64) -> [u64; 31]
@@ -46,20 +46,6 @@ pub fn lacking_units(rest: &[u64], n: usize, divisor: u64) -> u64
     (2 * sum_of(rest, n, divisor) + divisor) / (2 * divisor)
 }
 
-// Whether tap j comes before tap i.
-fn comes_before(rest: &[u64], offsets: &[u8], j: usize, i: usize) -> bool
-    requires { ⌜ (i < length (now rest)) × (j < length (now rest)) × (i < length (now offsets)) × (j < length (now offsets)) ⌝ }
-    ensures { λ r. ⌜ r ≡ before (getD (now (rest .entry)) j 0) (getD (now (offsets .entry)) j 0) (getD (now (rest .entry)) i 0) (getD (now (offsets .entry)) i 0) ⌝ }
-{
-    if rest[i] < rest[j] {
-        return true;
-    }
-    if rest[j] == rest[i] {
-        return offsets[j] < offsets[i];
-    }
-    false
-}
-
 fn bit(b: bool) -> usize
     ensures { λ r. ⌜ r ≡ cond b 1 0 ⌝ }
 {
@@ -74,7 +60,7 @@ fn ahead(rest: &[u64], offsets: &[u8], n: usize, i: usize) -> usize
     let mut found = 0;
     let mut j = 0;
     while j < n {
-        found += bit(comes_before(rest, offsets, j, i));
+        found += bit(unit_order::comes_before(rest, offsets, j, i));
         j += 1;
     }
     found

@@ -1,36 +1,27 @@
 -- Laws of `read_still`: a header's numbers may be cut at 10,000, and a whole header ends inside the file. Assumes nothing.
 use Prim.Native.Nat.{ℕ, _+_, _-_, _*_, _≤_, _<_, min}
-use native.Mathlib.Nat.{mul-le-mul, lt-of-not-le}
+use native.Mathlib.Nat.{lt-of-not-le}
 use native.Mathlib.Omega.{arith}
 use native.Mathlib.Decide.{decLe}
 use mathlib.Core.Path.{_≡_, refl, sym, _∙_}
-use mathlib.Core.Bool.{Bool, true, false, cond, _&&_, and-false, and-eq-true-iff}
+use mathlib.Core.Bool.{Bool, true, false, cond, _&&_, and-false}
 use mathlib.Core.List.{List}
 use lib.ListN.{length, getD, List·getD-eq-default}
 use lib.Dec.{leb, eqb}
 use borrow.Author.Tests.{le-leb, lt-leb, eq-eqb, ne-eqb}
-use Rattle.refusals.proofs.Passed.{between}
 use Rattle.text.specs.Text.{isSpace}
 use Rattle.header_reader.specs.Header as Spec
 use Rattle.header_reader.specs.Header.{field, headerOf, heightField, maximumField, header}
 use Rattle.header_reader.specs.Answers.{headerAnswer, wholeHeader}
-use Rattle.still_reader.specs.Read.{channelsOf, isSide, headerTests, pictureOf}
+use Rattle.picture_sizes.specs.PictureSize.{isSide}
+use Rattle.picture_sizes.proofs.SizeLaws.{side-le}
+use Rattle.still_reader.specs.Read.{channelsOf, headerTests, pictureOf}
 use Rattle.header_reader.specs.declared.Header.{Header}
 use Rattle.header_reader.specs.declared.Header.the-variants.{Bad, Numbers}
 use Rattle.answers.specs.declared.Still.{Still}
 use Rattle.answers.specs.declared.Still.the-variants.{Refused, Picture}
 
--- ---- sides
-
-pub side-le : (n : ℕ) → isSide n ≡ true → (1 ≤ n) × (n ≤ 8192)
-unfolding isSide
-side-le n e = between 1 n 8192 e
-
-pub sides-le : (w h : ℕ) → (isSide w && isSide h) ≡ true → ((1 ≤ w) × (w ≤ 8192)) × ((1 ≤ h) × (h ≤ 8192))
-sides-le w h e = let s = and-eq-true-iff (isSide w) (isSide h) .0 e in (side-le w (s .0), side-le h (s .1))
-
-pub size-small : (w h c : ℕ) → w ≤ 8192 → h ≤ 8192 → c ≤ 3 → (w * h ≤ 67108864) × (w * h * c ≤ 201326592)
-size-small w h c a b d = let e = mul-le-mul a b in (omega arith, mul-le-mul e d)
+-- ---- a number that is cut
 
 leb-cut : (k n : ℕ) → k ≤ 10000 → leb k (min n 10000) ≡ leb k n
 leb-cut k n h = go (decLe k n)

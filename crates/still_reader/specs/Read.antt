@@ -1,6 +1,6 @@
 -- What `read_still` answers.
 use Prim.Native.Nat.{ℕ, _+_, _-_, _*_}
-use mathlib.Core.Bool.{Bool, cond, _&&_}
+use mathlib.Core.Bool.{cond, _&&_}
 use mathlib.Core.List.{List, [], _∷_}
 use lib.ListN.{length, getD, drop}
 use lib.Dec.{leb, eqb}
@@ -8,15 +8,12 @@ use Rattle.refusals.specs.Refusal as Refusal
 use Rattle.refusals.specs.Refusal.{Test, tested}
 use Rattle.answers.specs.declared.Still.{Still}
 use Rattle.answers.specs.declared.Still.the-variants.{Refused, Picture}
+use Rattle.picture_sizes.specs.PictureSize.{isSide}
 use Rattle.header_reader.specs.Header.{Header, header}
 
 -- the channels that a magic's second byte stands for: 1 for the 5 of P5, 3 for the 6 of P6, 0 for any other
 unfoldable pub channelsOf : ℕ → ℕ
 channelsOf b = cond (eqb b 53) 1 (cond (eqb b 54) 3 0)
-
--- "Width W and height H are 1 to 8,192"
-unfoldable pub isSide : ℕ → Bool
-isSide n = leb 1 n && leb n 8192
 
 -- the tests after the magic in their order, for a header of c channels and a raster of `rest` bytes:
 -- "A whole header is read before 3, then 4, 5, 6"

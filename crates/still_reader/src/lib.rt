@@ -4,7 +4,7 @@ use header_reader::Header;
 ghost use mathlib.Core.Path.{_≡_};
 ghost use Prim.Native.Nat.{_+_, _≤_};
 ghost use Rattle.header_reader.specs.Answers.{wholeHeader};
-ghost use Rattle.still_reader.specs.Read.{channelsOf, isSide, pictureOf, stillOf};
+ghost use Rattle.still_reader.specs.Read.{channelsOf, pictureOf, stillOf};
 
 fn channels_of(b: u8) -> usize
     ensures { λ r. ⌜ r ≡ channelsOf b ⌝ }
@@ -16,16 +16,6 @@ fn channels_of(b: u8) -> usize
         return 3;
     }
     0
-}
-
-// Whether a width or a height is one that a still may have.
-pub fn is_side(n: usize) -> bool
-    ensures { λ r. ⌜ r ≡ isSide n ⌝ }
-{
-    if n < 1 {
-        return false;
-    }
-    n <= 8192
 }
 
 // What the numbers of a whole header of `len` bytes say of a file of `total` bytes.
@@ -40,8 +30,8 @@ fn picture(
     requires { ⌜ (channels ≤ 3) × (2 + len ≤ total) ⌝ }
     ensures { λ r. ⌜ r ≡ pictureOf channels (wholeHeader width height maximum len) total ⌝ }
 {
-    if is_side(width) {
-        if is_side(height) {
+    if picture_sizes::is_side(width) {
+        if picture_sizes::is_side(height) {
             if maximum != 255 {
                 return Still::Refused(refusals::MAXIMUM);
             }

@@ -2,32 +2,17 @@
 use Prim.Native.Nat.{ℕ, _+_, _*_, _-_, _≤_}
 use native.Mathlib.Nat.{le-antisymm}
 use native.Mathlib.Omega.{arith}
-use mathlib.Core.Path.{_≡_, refl, sym, _∙_}
-use mathlib.Core.Bool.{Bool, true, false, _||_}
-use mathlib.Core.Logic.{_⊎_, inl, inr, ⊎-elim}
+use mathlib.Core.Path.{_≡_, sym, _∙_}
 use mathlib.Core.List.{List, _++_}
 use lib.ListN.{length, take, drop}
 use lib.Seq.{take-length}
-use lib.Dec.{eqb}
-use borrow.Author.Tests.{eqb-true, leb-true}
+use borrow.Author.Tests.{leb-true}
 use Rattle.lists.proofs.Part.{behind}
 use Rattle.refusals.proofs.Passed.{passed}
-use Rattle.still_reader.proofs.ReadLaws.{sides-le}
+use Rattle.picture_sizes.proofs.SizeLaws.{sides-le}
 use Rattle.header_writer.specs.Heading.{headerBytes}
-use Rattle.still_writer.specs.Write.{isChannels, writeTests, writtenOf}
+use Rattle.still_writer.specs.Write.{writeTests, writtenOf}
 use Rattle.answers.specs.declared.Written.the-variants.{Refused, Length}
-
-pub channels-cases : (c : ℕ) → isChannels c ≡ true → (c ≡ 1) ⊎ (c ≡ 3)
-unfolding isChannels
-channels-cases c e = go (eqb c 1) (eqb c 3) refl refl e
-  where
-    go : (s t : Bool) → eqb c 1 ≡ s → eqb c 3 ≡ t → (s || t) ≡ true → (c ≡ 1) ⊎ (c ≡ 3)
-    go true t f g k = inl (eqb-true c 1 f)
-    go false true f g k = inr (eqb-true c 3 g)
-    go false false f g k = let z : _≡_ {A = ℕ} 0 1 = cc in absurd (omega arith)
-
-pub channels-few : (c : ℕ) → isChannels c ≡ true → c ≤ 3
-channels-few c e = ⊎-elim (λ f. omega arith) (λ f. omega arith) (channels-cases c e)
 
 -- what an answer with a length has passed
 pub record Accepted (w h c raster room n : ℕ) : Type 0 where

@@ -1,20 +1,16 @@
 -- What `write_still` answers and writes.
 use Prim.Native.Nat.{ℕ, _+_, _*_}
 use mathlib.Core.Path.{_≡_}
-use mathlib.Core.Bool.{Bool, _&&_, _||_}
+use mathlib.Core.Bool.{_&&_}
 use mathlib.Core.List.{List, [], _∷_, _++_}
 use lib.ListN.{length, drop}
-use lib.Dec.{leb, eqb}
+use lib.Dec.{leb}
 use Rattle.refusals.specs.Refusal as Refusal
 use Rattle.refusals.specs.Refusal.{Test, tested}
-use Rattle.still_reader.specs.Read.{isSide}
+use Rattle.picture_sizes.specs.PictureSize.{isSide, isChannels}
 use Rattle.header_writer.specs.Heading.{headerBytes}
 use Rattle.answers.specs.declared.Written.{Written}
 use Rattle.answers.specs.declared.Written.the-variants.{Refused, Length}
-
--- "channels not 1 or 3"
-unfoldable pub isChannels : ℕ → Bool
-isChannels c = eqb c 1 || eqb c 3
 
 -- the tests in their order, for a raster and an output of so many bytes: "write one, giving its length (19, 3, 5, 6, 20)"
 unfoldable pub writeTests : ℕ → ℕ → ℕ → ℕ → ℕ → List Test

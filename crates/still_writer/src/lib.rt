@@ -5,26 +5,17 @@ ghost use mathlib.Core.List.{_++_};
 ghost use Prim.Native.Nat.{_+_, _≤_};
 ghost use lib.ListN.{length, drop};
 ghost use Rattle.header_writer.specs.Heading.{headerBytes};
-ghost use Rattle.still_writer.specs.Write.{isChannels, writtenOf, Writes};
-
-pub fn is_channels(n: usize) -> bool
-    ensures { λ r. ⌜ r ≡ isChannels n ⌝ }
-{
-    if n == 1 {
-        return true;
-    }
-    n == 3
-}
+ghost use Rattle.still_writer.specs.Write.{writtenOf, Writes};
 
 // What a call with these numbers answers.
 fn tested(width: usize, height: usize, channels: usize, raster: usize, room: usize) -> Written
     ensures { λ r. ⌜ r ≡ writtenOf width height channels raster room ⌝ }
 {
-    if !is_channels(channels) {
+    if !picture_sizes::is_channels(channels) {
         return Written::Refused(refusals::CHANNELS);
     }
-    if still_reader::is_side(width) {
-        if still_reader::is_side(height) {
+    if picture_sizes::is_side(width) {
+        if picture_sizes::is_side(height) {
             let size = width * height * channels;
             if raster < size {
                 return Written::Refused(refusals::RASTER_SHORT);

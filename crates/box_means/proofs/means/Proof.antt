@@ -8,7 +8,7 @@ use Rattle.lists.proofs.Part.{tail-mid}
 use Rattle.lists.proofs.Stored.{StoredRows, rows-stored-none, rows-stored-more, rows-stored-done, row-room}
 use Rattle.model.specs.Window as Model
 use Rattle.table_sizes.specs.TableSides.{tableWidth}
-use Rattle.box_means.specs.Corners.{cornersAt}
+use Rattle.box_means.specs.WindowCorners.{cornersAt}
 use Rattle.box_means.proofs.Sizes.{area-small, below-small, windows-fit}
 use borrow.Author.Needs.{needs}
 use Rattle.box_means.proofs.means.Statement.{statement}

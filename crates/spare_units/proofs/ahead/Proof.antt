@@ -9,7 +9,7 @@ use denote.Ref.{now}
 use Rattle.lists.specs.Tabulate.{tabulate}
 use Rattle.lists.specs.Count.{count}
 use Rattle.lists.proofs.Count.{bit-one}
-use Rattle.spare_units.specs.Order.{before}
+use Rattle.unit_order.specs.Order.{before}
 use Rattle.lists.proofs.Sums.{count-more, count-none}
 use borrow.Author.Needs.{needs}
 use Rattle.spare_units.proofs.ahead.Statement.{statement}

@@ -1,0 +1,2 @@
+pub mod Corners
+pub mod Quotient

@@ -1,0 +1,2 @@
+-- Windows in rows of a summed-area table, definitions only.
+pub mod Corners

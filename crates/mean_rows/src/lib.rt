@@ -1,0 +1,54 @@
+// A row of means over windows, from the corners of a summed-area table: the time per sample does not depend on the radii.
+ghost use mathlib.Core.Path.{_≡_};
+ghost use mathlib.Core.List.{_++_};
+ghost use Prim.Native.Nat.{ℕ, _+_, _-_, _*_, _/_, _^_, _≤_, _<_};
+ghost use lib.ListN.{length, drop};
+ghost use Rattle.lists.specs.Tabulate.{tabulate};
+ghost use Rattle.mean_rows.specs.Corners.{corners};
+
+// The sum of a window from its four corners. Entries are modulo 2^32, and so is this: a window's sum is smaller.
+fn window_sum(table: &[u32], below: usize, across: usize, u: usize) -> u32
+    requires { ⌜ below + across + u < length (now table) ⌝ }
+    ensures { λ r. ⌜ r ≡ corners (now (table .entry)) below across u ⌝ }
+{
+    let right = std::num::wrapping_sub_u32(table[below + across + u], table[across + u]);
+    let left = std::num::wrapping_sub_u32(table[below + u], table[u]);
+    std::num::wrapping_sub_u32(right, left)
+}
+
+// 2^32 / (2 area), rounded up.
+pub fn reciprocal(area: u32) -> u64
+    requires { ⌜ (1 ≤ area) × (area ≤ 961) ⌝ }
+    ensures { λ r. ⌜ r ≡ (2 ^ 32 + (2 * area - 1)) / (2 * area) ⌝ }
+{
+    let twice = 2 * area as u64;
+    (4294967296 + (twice - 1)) / twice
+}
+
+// (2 sum + area) / (2 area) by the reciprocal: no division for each sample.
+fn mean(sum: u32, area: u32, by: u64) -> u8
+    requires { ⌜ (1 ≤ area) × (area ≤ 961) × (sum ≤ 255 * area) × (by ≡ (2 ^ 32 + (2 * area - 1)) / (2 * area)) ⌝ }
+    ensures { λ r. ⌜ r ≡ (2 * sum + area) / (2 * area) ⌝ }
+{
+    (((2 * sum + area) as u64 * by) >> 32) as u8
+}
+
+// One row of means, from the table's rows at the front and `below` entries after it.
+pub fn mean_row(
+    table: &[u32],
+    below: usize,
+    across: usize,
+    w: usize,
+    area: u32,
+    by: u64,
+    dst: &mut [u8],
+)
+    requires { ⌜ (w ≤ length (now dst)) × (below + across + w ≤ length (now table)) × (1 ≤ area) × (area ≤ 961) × (by ≡ (2 ^ 32 + (2 * area - 1)) / (2 * area)) × ((u : ℕ) → u < w → corners (now table) below across u ≤ 255 * area) ⌝ }
+    ensures { λ _. ⌜ now (dst .exit) ≡ tabulate (λ u. (2 * corners (now (table .entry)) below across u + area) / (2 * area)) w ++ drop w (now (dst .entry)) ⌝ }
+{
+    let mut u = 0;
+    while u < w {
+        dst[u] = mean(window_sum(table, below, across, u), area, by);
+        u += 1;
+    }
+}

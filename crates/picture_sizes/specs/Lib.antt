@@ -1,0 +1,2 @@
+-- The size of a picture, definitions only.
+pub mod PictureSize
