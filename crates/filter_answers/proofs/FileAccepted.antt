@@ -14,7 +14,7 @@ use Rattle.model.specs.Tolerance.{tolerance}
 use Rattle.answers.specs.declared.Still.{Still}
 use Rattle.answers.specs.declared.Still.the-variants as Still
 use Rattle.still_reader.specs.Read.{stillOf}
-use Rattle.picture_sizes.proofs.SizeLaws.{side-le, size-small, channels-cases, channels-few}
+use Rattle.picture_sizes.proofs.PictureSizeLaws.{side-le, size-small, channels-cases, channels-few}
 use Rattle.round_trip.proofs.RoundTrip.{picture-valid}
 use Rattle.answers.specs.declared.Recipe.the-variants as Recipe
 use Rattle.recipe.proofs.Accepted.{recipe-refused}

@@ -10,7 +10,7 @@ use Rattle.refusals.specs.Refusal.{tested, verdict}
 use Rattle.refusals.specs.declared.Verdict.the-variants as Verdict
 use Rattle.refusals.proofs.Passed.{passed, all-append, passed-all, passed-part, refused-part, passed-whole, refused-whole}
 use Rattle.model.specs.Tolerance.{tolerance}
-use Rattle.picture_sizes.proofs.SizeLaws.{sides-le}
+use Rattle.picture_sizes.proofs.PictureSizeLaws.{sides-le}
 use Rattle.recipe.specs.Recipe.{recipeTests, recipeStages, recipeOf}
 use Rattle.recipe.proofs.Accepted.{recipe-refused}
 use Rattle.answers.specs.declared.Recipe.{Recipe}

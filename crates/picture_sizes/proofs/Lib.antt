@@ -1,1 +1,1 @@
-pub mod SizeLaws
+pub mod PictureSizeLaws

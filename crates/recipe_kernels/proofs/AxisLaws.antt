@@ -25,7 +25,7 @@ use Rattle.tap_fields.proofs.TapFieldLaws.{parts}
 use Rattle.taps.specs.TapBytes.{numeratorAt, kernelAt}
 use Rattle.taps.specs.Held.{Tested, Holds}
 use Rattle.recipe_kernels.specs.Kernels.{tapsBefore, kernelOn, weightedLength}
-use Rattle.recipe_kernels.specs.Kept.{Kept}
+use Rattle.gain_tests.specs.Kept.{Kept}
 
 kernel-rising : (real : Bool) (D : ℕ) (b : List ℕ) (n o w : ℕ)
     → ((i j : ℕ) → i < j → j < n → signed8 (at b (o + i)) <ℤ signed8 (at b (o + j)))

@@ -3,28 +3,20 @@ use Prim.Native.Nat.{ℕ, zero, suc, _*_, _≤_, _<_}
 use native.Mathlib.Omega.{arith}
 use mathlib.Core.Path.{_≡_, sym, subst}
 use mathlib.Core.Bool.{Bool}
-use mathlib.Core.List.{List, [], _∷_}
-use borrow.Author.Tests.{leb-true, le-leb, lt-leb}
+use mathlib.Core.List.{List}
+use borrow.Author.Tests.{leb-true}
 use Rattle.refusals.specs.Refusal.{verdict}
-use Rattle.refusals.specs.declared.Verdict.the-variants.{Refused, Passed}
+use Rattle.refusals.specs.declared.Verdict.the-variants.{Passed}
 use Rattle.refusals.proofs.Passed.{all-pass, all-append, passed-all}
 use Rattle.model.specs.Kernel.{Kernel, Rising, magnitude, kernel}
 use Rattle.kernels.specs.Kernel.{kernelOf, Limits}
 use Rattle.recipe_bytes.specs.Bytes.{at}
 use Rattle.tap_fields.specs.TapFields.{tapTests}
 use Rattle.taps.specs.Held.{Holds}
-use Rattle.recipe_kernels.specs.Kernels.{kernelOn, gainTest, gainTests, weightedTests}
-use Rattle.recipe_kernels.specs.Kept.{Kept}
+use Rattle.gain_tests.specs.Gain.{gainTest}
+use Rattle.gain_tests.specs.Kept.{Kept}
+use Rattle.recipe_kernels.specs.Kernels.{kernelOn, gainTests, weightedTests}
 use Rattle.recipe_kernels.proofs.AxisLaws.{axis-rising}
-
--- the gain of a kernel
-pub gain-high : (K : Kernel) → 4 * K .divisor < magnitude (K .taps) → Refused 17 ≡ verdict (gainTest K ∷ [])
-unfolding gainTest verdict
-gain-high K h = rw (lt-leb (magnitude (K .taps)) (4 * K .divisor) h)
-
-pub gain-low : (K : Kernel) → magnitude (K .taps) ≤ 4 * K .divisor → Passed ≡ verdict (gainTest K ∷ [])
-unfolding gainTest verdict
-gain-low K h = rw (le-leb (magnitude (K .taps)) (4 * K .divisor) h)
 
 pub taps-part : (real : Bool) (b : List ℕ) → verdict (weightedTests real b) ≡ Passed → verdict (tapTests real b) ≡ Passed
 unfolding weightedTests

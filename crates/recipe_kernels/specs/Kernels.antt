@@ -2,15 +2,15 @@
 use Prim.Native.Nat.{ℕ, _+_, _*_}
 use mathlib.Core.Bool.{Bool, cond}
 use mathlib.Core.List.{List, [], _∷_, _++_}
-use lib.Dec.{leb, eqb}
-use Rattle.refusals.specs.Refusal as Refusal
+use lib.Dec.{eqb}
 use Rattle.refusals.specs.Refusal.{Test}
-use Rattle.model.specs.Kernel.{Kernel, magnitude}
+use Rattle.model.specs.Kernel.{Kernel}
 use Rattle.model.specs.Stage.{Work, weighted}
 use Rattle.recipe_bytes.specs.Bytes.{at}
 use Rattle.axis_fields.specs.AxisFields.{sizesLength, divisorAt, weightLength}
 use Rattle.tap_fields.specs.TapFields.{tapTests}
 use Rattle.taps.specs.TapBytes.{kernelAt}
+use Rattle.gain_tests.specs.Gain.{gainTest}
 
 -- axis 0 is across, 1 is down: how many taps come before an axis's own, "horizontal entries before vertical"
 unfoldable pub tapsBefore : ℕ → List ℕ → ℕ
@@ -22,10 +22,6 @@ kernelOn real axis b =
     kernelAt real (divisorAt real (2 + 2 * axis) b) b (at b axis)
     (sizesLength real + tapsBefore axis b)
     (sizesLength real + (at b 0 + at b 1) + weightLength real * tapsBefore axis b)
-
--- "The gain of an axis is the sum of |a| over D; at most 4"
-unfoldable pub gainTest : Kernel → Test
-gainTest K = (leb (magnitude (K .taps)) (4 * K .divisor), Refusal.gain)
 
 -- "gain, tested at the stage's end"
 unfoldable pub gainTests : Bool → List ℕ → List Test

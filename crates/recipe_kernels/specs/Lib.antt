@@ -1,3 +1,2 @@
 -- The kernels of a stage of weights, definitions only.
 pub mod Kernels
-pub mod Kept

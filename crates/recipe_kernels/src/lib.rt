@@ -4,18 +4,16 @@ use recipe_bytes::wide;
 use refusals::Verdict;
 ghost use mathlib.Core.Path.{_≡_};
 ghost use mathlib.Core.Bool.{not};
-ghost use mathlib.Core.List.{[], _∷_};
 ghost use Prim.Native.Nat.{_+_, _≤_};
 ghost use lib.ListN.{length};
 ghost use lib.Dec.{T};
 ghost use Rattle.refusals.specs.Refusal.{verdict};
 ghost use Rattle.refusals.specs.declared.Verdict.the-variants.{Passed};
-ghost use Rattle.kernels.specs.Kernel.{kernelOf};
 ghost use Rattle.axis_fields.specs.AxisFields.{divisorAt};
 ghost use Rattle.tap_fields.specs.TapFields.{tapTests};
 ghost use Rattle.taps.specs.Held.{Holds};
-ghost use Rattle.recipe_kernels.specs.Kernels.{tapsBefore, kernelOn, gainTest, gainTests, weightedTests, weightedLength};
-ghost use Rattle.recipe_kernels.specs.Kept.{Kept};
+ghost use Rattle.gain_tests.specs.Kept.{Kept};
+ghost use Rattle.recipe_kernels.specs.Kernels.{tapsBefore, kernelOn, gainTests, weightedTests, weightedLength};
 
 // The divisor of an axis: two bytes from place k on, or that of reals.
 fn divisor(part: &[u8], real: bool, k: usize) -> u64
@@ -61,28 +59,14 @@ pub fn length(part: &[u8], real: bool) -> usize
     axis_fields::sizes_length(real) + taps + axis_fields::weight_length(real) * taps
 }
 
-// Whether the gain of a kernel is at most 4.
-fn gain(k: Kernel) -> Verdict
-    requires { ⌜ Kept (k .values) (k .len) (k .divisor) ⌝ }
-    ensures { λ r. ⌜ r ≡ verdict (gainTest (kernelOf (k .divisor) (k .offsets) (k .values) (k .len)) ∷ []) ⌝ }
-{
-    let values = k.values;
-    let len = k.len;
-    let divisor = k.divisor;
-    if 4 * divisor < numerators::magnitude(&values, len) {
-        return Verdict::Refused(refusals::GAIN);
-    }
-    Verdict::Passed
-}
-
 // The gains of both axes, after fields that pass.
 fn gains(part: &[u8], real: bool) -> Verdict
     requires { ⌜ verdict (tapTests real (now part)) ≡ Passed ⌝ }
     ensures { λ r. ⌜ r ≡ verdict (gainTests real (now (part .entry))) ⌝ }
 {
     refusals::both(
-        gain(kernel_on(part, real, 0)),
-        gain(kernel_on(part, real, 1)),
+        gain_tests::gain(kernel_on(part, real, 0)),
+        gain_tests::gain(kernel_on(part, real, 1)),
     )
 }
 

@@ -19,7 +19,7 @@ use Rattle.picture_sizes.specs.PictureSize.{isSide, isChannels}
 use Rattle.still_reader.specs.Read.{channelsOf, headerTests, magicTest, pictureOf, stillOf}
 use Rattle.header_writer.specs.Heading.{decimalIn, decimal, magicLine, headerBytes}
 use Rattle.answers.specs.declared.Still.the-variants.{Refused, Picture}
-use Rattle.picture_sizes.proofs.SizeLaws.{channels-cases}
+use Rattle.picture_sizes.proofs.PictureSizeLaws.{channels-cases}
 
 -- ---- decimal digits are digits, at least one, and have their number's value
 

@@ -14,7 +14,7 @@ use Rattle.header_reader.specs.Header as Spec
 use Rattle.header_reader.specs.Header.{field, headerOf, heightField, maximumField, header}
 use Rattle.header_reader.specs.Answers.{headerAnswer, wholeHeader}
 use Rattle.picture_sizes.specs.PictureSize.{isSide}
-use Rattle.picture_sizes.proofs.SizeLaws.{side-le}
+use Rattle.picture_sizes.proofs.PictureSizeLaws.{side-le}
 use Rattle.still_reader.specs.Read.{channelsOf, headerTests, pictureOf}
 use Rattle.header_reader.specs.declared.Header.{Header}
 use Rattle.header_reader.specs.declared.Header.the-variants.{Bad, Numbers}

@@ -9,7 +9,7 @@ use lib.Seq.{take-length}
 use borrow.Author.Tests.{leb-true}
 use Rattle.lists.proofs.Part.{behind}
 use Rattle.refusals.proofs.Passed.{passed}
-use Rattle.picture_sizes.proofs.SizeLaws.{sides-le}
+use Rattle.picture_sizes.proofs.PictureSizeLaws.{sides-le}
 use Rattle.header_writer.specs.Heading.{headerBytes}
 use Rattle.still_writer.specs.Write.{writeTests, writtenOf}
 use Rattle.answers.specs.declared.Written.the-variants.{Refused, Length}

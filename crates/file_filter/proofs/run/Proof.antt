@@ -6,7 +6,7 @@ use denote.Ref.{now}
 use Rattle.lists.proofs.Part.{tail-mid}
 use Rattle.header_writer.specs.Heading.{headerBytes}
 use Rattle.recipe.specs.Recipe.{recipeStages}
-use Rattle.picture_sizes.proofs.SizeLaws.{size-small}
+use Rattle.picture_sizes.proofs.PictureSizeLaws.{size-small}
 use Rattle.filter_answers.specs.FileAnswer.{fileSize}
 use Rattle.raster_filter.specs.FilteredRaster.{filteredRaster}
 use Rattle.file_filter.proofs.Behind.{raster-behind}

@@ -5,7 +5,7 @@ use mathlib.Core.Path.{refl, sym, _∙_}
 use borrow.Author.Tests.{le-leb, lt-leb, eq-eqb, ne-eqb}
 use denote.Ref.{now}
 use Rattle.refusals.specs.Refusal.{verdict}
-use Rattle.picture_sizes.proofs.SizeLaws.{side-le}
+use Rattle.picture_sizes.proofs.PictureSizeLaws.{side-le}
 use Rattle.recipe.proofs.Walk.{walk-start}
 use Rattle.filter_answers.specs.PlaneAnswer.{planeTests}
 use borrow.Author.Needs.{needs}

@@ -3,7 +3,8 @@ use denote.Ref.{now}
 use mathlib.Core.List.{[], _∷_}
 use mathlib.Core.Path.{sym}
 use Rattle.refusals.proofs.Passed.{verdict-append}
-use Rattle.recipe_kernels.specs.Kernels.{kernelOn, gainTest, gainTests}
+use Rattle.gain_tests.specs.Gain.{gainTest}
+use Rattle.recipe_kernels.specs.Kernels.{kernelOn, gainTests}
 use borrow.Author.Needs.{needs}
 use Rattle.recipe_kernels.proofs.gains.Statement.{statement}
 use Rattle.recipe_kernels.proofs.gains.Tie as tie

@@ -4,7 +4,7 @@ use mathlib.Core.Path.{sym, _∙_}
 use borrow.Author.Tests.{le-leb, lt-leb, eq-eqb, ne-eqb}
 use Rattle.header_reader.specs.Answers.{wholeHeader}
 use Rattle.still_reader.specs.Read.{headerTests, pictureOf}
-use Rattle.picture_sizes.proofs.SizeLaws.{side-le, size-small}
+use Rattle.picture_sizes.proofs.PictureSizeLaws.{side-le, size-small}
 use borrow.Author.Needs.{needs}
 use Rattle.still_reader.proofs.picture.Statement.{statement}
 use Rattle.still_reader.proofs.picture.Tie as tie

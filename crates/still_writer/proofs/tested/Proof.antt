@@ -3,7 +3,7 @@ use native.Mathlib.Omega.{arith}
 use mathlib.Core.Path.{sym, _∙_}
 use borrow.Author.Tests.{le-leb, lt-leb, not-true, not-false}
 use Rattle.still_writer.specs.Write.{writeTests, writtenOf}
-use Rattle.picture_sizes.proofs.SizeLaws.{side-le, size-small, channels-few}
+use Rattle.picture_sizes.proofs.PictureSizeLaws.{side-le, size-small, channels-few}
 use Rattle.header_writer.proofs.HeadingLaws.{header-length}
 use borrow.Author.Needs.{needs}
 use Rattle.still_writer.proofs.tested.Statement.{statement}

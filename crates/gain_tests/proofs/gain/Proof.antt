@@ -1,12 +1,12 @@
--- `recipe_kernels::gain` meets its contract. Assumes nothing.
+-- `gain_tests::gain` meets its contract. Assumes nothing.
 use native.Mathlib.Omega.{arith}
 use Rattle.kernels.proofs.Units.{magnitude-is}
 use Rattle.kernels.specs.Kernel.{kernelOf}
 use Rattle.model.specs.Kernel.{kernel}
-use Rattle.recipe_kernels.proofs.GainLaws.{gain-high, gain-low}
+use Rattle.gain_tests.proofs.GainTest.{gain-high, gain-low}
 use borrow.Author.Needs.{needs}
-use Rattle.recipe_kernels.proofs.gain.Statement.{statement}
-use Rattle.recipe_kernels.proofs.gain.Tie as tie
+use Rattle.gain_tests.proofs.gain.Statement.{statement}
+use Rattle.gain_tests.proofs.gain.Tie as tie
 
 mul-if1 : tie.Need-mul-if1
 mul-if1 c = omega (arith, c .before .pre .low)
