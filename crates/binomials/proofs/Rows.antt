@@ -11,7 +11,7 @@ use lib.Pow.{pow-mono}
 use lib.Seq.{getD-append-add}
 use Rattle.integers.specs.Sum.{sum}
 use Rattle.model.specs.Binomial.{pascalRow, choose}
-use Rattle.model.proofs.Binomial.{row-length, row-sum}
+use Rattle.model_laws.proofs.Binomial.{row-length, row-sum}
 
 -- rows 0, 2, .., 2 (n - 1)
 unfoldable pub evenRows : ℕ → List ℕ

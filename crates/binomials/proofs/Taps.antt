@@ -13,7 +13,7 @@ use Rattle.lists.specs.Tabulate.{tabulate}
 use Rattle.lists.proofs.Tabulate.{entry-known, tabulate-ext}
 use Rattle.model.specs.Kernel.{tap, kernel, total, magnitude}
 use Rattle.model.specs.Binomial.{choose, binomial}
-use Rattle.model.proofs.Binomial.{binomial-rising, binomial-total}
+use Rattle.model_laws.proofs.Binomial.{binomial-rising, binomial-total}
 use Rattle.stage_values.specs.Place.{offsetOf}
 use Rattle.numerators.specs.Numerator.{numeratorOf}
 use Rattle.kernels.specs.Kernel.{tapOf, kernelOf, Limits}

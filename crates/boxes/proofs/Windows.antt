@@ -11,8 +11,8 @@ use Rattle.lists.specs.Tabulate.{raster}
 use Rattle.lists.proofs.Raster.{length-raster, getD-raster, raster-ext, place-fits}
 use Rattle.model.specs.Window.{area, window}
 use Rattle.model.specs.Box.{boxResult}
-use Rattle.model.proofs.Window.{length-window, pairs-window, sum-le}
-use Rattle.model.proofs.Chain.{around-both}
+use Rattle.model_laws.proofs.Window.{length-window, pairs-window, sum-le}
+use Rattle.model_laws.proofs.Chain.{around-both}
 use Rattle.model.specs.Plane.{planeOf}
 use Rattle.model.specs.Sound.{Bytes}
 use Rattle.stage_values.specs.declared.Window.{Window}

@@ -13,7 +13,7 @@ use Rattle.model.specs.Tolerance.{tolerance}
 use Rattle.model.specs.Exact.{exact, exactDenominator}
 use Rattle.model.specs.Within.{Within}
 use Rattle.model.specs.Sound.{Sound, Bytes}
-use Rattle.model.proofs.Chain.{within-tolerance}
+use Rattle.model_laws.proofs.Chain.{within-tolerance}
 use Rattle.channels.specs.Channel.{channel, interleave}
 use Rattle.channels.proofs.Interleaved.{interleave-at, length-interleave, channel-bytes}
 use Rattle.answers.specs.declared.File.{File}

@@ -8,7 +8,7 @@ use lib.ListN.{length, drop, take}
 use Rattle.lists.specs.Tabulate.{tabulate}
 use Rattle.lists.proofs.Tabulate.{fill-part, tabulate-ext, tabulate-getD}
 use Rattle.lists.proofs.Raster.{row-fits}
-use Rattle.model.proofs.Border.{supply-identity}
+use Rattle.model_laws.proofs.Border.{supply-identity}
 use Rattle.stage_values.specs.Stands.{borderIs}
 use Rattle.places.proofs.PlaceLaws.{from}
 use Rattle.frame.specs.declared.Frame.{Frame}

@@ -17,7 +17,7 @@ use Rattle.lists.proofs.Tabulate.{length-tabulate, getD-tabulate, tabulate-ext,
 use Rattle.lists.proofs.Raster.{length-raster}
 use Rattle.lists.proofs.Count.{Bit, one, none, bit-lt, bit-le, count-mono, count-length}
 use Rattle.model.specs.Rank.{smallest}
-use Rattle.model.proofs.Rank.{atMost, smallest-by}
+use Rattle.model_laws.proofs.Rank.{atMost, smallest-by}
 use Rattle.histograms.specs.Histogram.{counted, histogram, total}
 
 -- ---- counts

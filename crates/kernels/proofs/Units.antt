@@ -21,7 +21,7 @@ use Rattle.lists.proofs.Count.{count-ext}
 use Rattle.model.specs.Kernel.{tap, kernel, magnitude}
 use Rattle.model.specs.Apportion.{quotient, remainder, comesBefore, getsUnit, share, apportion}
 use Rattle.model.specs.Tolerance.{scaledGain}
-use Rattle.model.proofs.Apportion.{lacking-by-remainders}
+use Rattle.model_laws.proofs.Apportion.{lacking-by-remainders}
 use Rattle.stage_values.specs.Place.{offsetOf}
 use Rattle.numerators.specs.Numerator.{numeratorOf, remainderOf}
 use Rattle.kernels.specs.Kernel.{tapOf, kernelOf, Limits}

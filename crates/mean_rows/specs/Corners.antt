@@ -1,5 +1,5 @@
 -- Four-corner differences of a summed-area table.
-use Prim.Native.Nat.{ℕ, _+_, _-_, _*_, _%_, _^_}
+use Prim.Native.Nat.{ℕ, _+_, _-_, _%_, _^_}
 use mathlib.Core.List.{List}
 use lib.ListN.{getD}
 

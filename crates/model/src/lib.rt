@@ -1,1 +1,1 @@
-// Document 01's arithmetic as definitions (specs/) and what is proved of them (proofs/): no code.
+// Document 01's arithmetic as definitions, with a table of worked examples (specs/): no code.

@@ -10,7 +10,7 @@ use borrow.Author.Tests.{lt-ltb, le-ltb}
 use Rattle.integers.specs.Divide.{modulo}
 use Rattle.integers.proofs.Parts.{posPart, negPart, parts-ext, sub-parts}
 use Rattle.model.specs.Border.{constant, nearest, mirror, wrap, inside, closest, reflected, supply}
-use Rattle.model.proofs.Border.{Inside}
+use Rattle.model_laws.proofs.Border.{Inside}
 use Rattle.stage_values.specs.Place.{offsetOf}
 use Rattle.places.specs.Supplied.{placeOf}
 

@@ -11,7 +11,7 @@ use Rattle.model.specs.Tolerance.{tolerance}
 use Rattle.model.specs.Exact.{exact, exactDenominator}
 use Rattle.model.specs.Within.{Within}
 use Rattle.model.specs.Sound.{Sound, Bytes}
-use Rattle.model.proofs.Chain.{within-tolerance}
+use Rattle.model_laws.proofs.Chain.{within-tolerance}
 use Rattle.answers.specs.declared.Filtered.{Filtered}
 use Rattle.answers.specs.declared.Filtered.the-variants.{Refused, Tolerance}
 use Rattle.recipe.specs.Recipe.{recipeStages}

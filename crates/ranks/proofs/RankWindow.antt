@@ -18,9 +18,9 @@ use Rattle.histograms.specs.Histogram.{histogram, total}
 use Rattle.histograms.proofs.Levels.{length-histogram, total-at-most, smallest-level}
 use Rattle.model.specs.Window.{area, window}
 use Rattle.model.specs.Rank.{rankResult}
-use Rattle.model.proofs.Chain.{around-both}
-use Rattle.model.proofs.Window.{length-window}
-use Rattle.model.proofs.Rank.{smallest-iff, rank-le}
+use Rattle.model_laws.proofs.Chain.{around-both}
+use Rattle.model_laws.proofs.Window.{length-window}
+use Rattle.model_laws.proofs.Rank.{smallest-iff, rank-le}
 
 -- a window has at most 31 by 31 samples
 area-le : (r s : ℕ) → r ≤ 15 → s ≤ 15 → area r s ≤ 961

@@ -13,7 +13,7 @@ use Rattle.refusals.specs.Refusal.{verdict}
 use Rattle.refusals.specs.declared.Verdict.the-variants.{Passed}
 use Rattle.refusals.proofs.Passed.{AllPass, passed-all}
 use Rattle.weights.specs.Bits.{accepted}
-use Rattle.model.proofs.Binomial.{rising-tabulate}
+use Rattle.model_laws.proofs.Binomial.{rising-tabulate}
 use Rattle.model.specs.Kernel.{Kernel, Rising, kernel}
 use Rattle.recipe_bytes.specs.Bytes.{at, word, signed8, bits}
 use Rattle.recipe_bytes.proofs.ByteLaws.{bits-drop}

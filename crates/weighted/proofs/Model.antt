@@ -19,7 +19,7 @@ use Rattle.lists.proofs.Raster.{getD-raster}
 use Rattle.model.specs.Kernel.{Tap, tap, Kernel, weightedSum, magnitude}
 use Rattle.model.specs.Apportion.{share, apportion}
 use Rattle.model.specs.Weighted.{rowValue, weightedResult}
-use Rattle.model.proofs.Bounds.{magnitude-apportion}
+use Rattle.model_laws.proofs.Bounds.{magnitude-apportion}
 use Rattle.lists.proofs.Sums.{map-tabulate, sum-more, sum-none}
 use Rattle.stage_values.specs.declared.Axis.{Axis}
 use Rattle.stage_values.specs.Place.{offsetOf}

@@ -1,5 +1,5 @@
 -- `frame::sample` meets its contract: a place inside is in the row; another is the border value's. Assumes nothing.
-use Rattle.model.proofs.Border.{supply-inside}
+use Rattle.model_laws.proofs.Border.{supply-inside}
 use Rattle.frame.specs.Padded.{rowPick}
 use Rattle.places.proofs.PlaceLaws.{place-some, place-none}
 use borrow.Author.Needs.{needs}

@@ -11,16 +11,16 @@ use Rattle.integers.specs.Divide.{clamp}
 use Rattle.integers.specs.Sum.{sumℤ}
 use Rattle.integers.proofs.Parts.{add-mul}
 use Rattle.lists.proofs.Raster.{place-fits, raster-ext, raster-const}
 use Rattle.model.specs.Border.{Border, constant, nearest, mirror, wrap, supply}
 use Rattle.model.specs.Plane.{Plane, planeOf, pick, around}
 use Rattle.model.specs.Kernel.{Tap, Kernel, kernel, weightedSum, total, Rising}
 use Rattle.model.specs.Binomial.{binomial}
 use Rattle.model.specs.Apportion.{wantedTotal, apportion}
 use Rattle.model.specs.Weighted.{rowValue, weightedResult}
 use Rattle.model.specs.Stage.{weighted, stage, result, stagePlane, written}
-use Rattle.model.proofs.Border.{Inside, supply-inside}
-use Rattle.model.proofs.Apportion.{apportion-total}
-use Rattle.model.proofs.Binomial.{binomial-rising, binomial-total}
+use Rattle.model_laws.proofs.Border.{Inside, supply-inside}
+use Rattle.model_laws.proofs.Apportion.{apportion-total}
+use Rattle.model_laws.proofs.Binomial.{binomial-rising, binomial-total}
 
 -- a kernel whose fractions add up to 1
 pub record SumsToOne (K : Kernel) : Type 0 where

@@ -8,9 +8,8 @@ use lib.IntN.{ℤ, pos, _-ℤ_}
 use Rattle.integers.specs.Sum.{sum}
 use Rattle.lists.proofs.Raster.{length-raster}
 use Rattle.lists.proofs.Pairs.{Pairs, none, more, pairs-raster}
-use Rattle.model.specs.Examples
 use Rattle.model.specs.Plane.{Neighbourhood}
 use Rattle.model.specs.Window.{area, window}
 
 pub length-window : (r s : ℕ) (f : Neighbourhood) → length (window r s f) ≡ area r s
 unfolding window area

@@ -18,9 +18,8 @@ use Rattle.integers.proofs.Divide.{divided, Floor, floor-law}
 use Rattle.lists.specs.Count.{count}
 use Rattle.lists.proofs.Count.{Bit, one, none, bit-lt, count-mono, count-ext, count-length}
 use Rattle.lists.proofs.Order.{Strict, Settled, served}
-use Rattle.model.specs.Examples
 use Rattle.model.specs.Kernel.{Tap, tap, Kernel, total, Rising}
 use Rattle.model.specs.Apportion.{quotient, remainder, wantedTotal, lacking, comesBefore, getsUnit, share, apportion}
 
 -- each weight is its floor or one more
 pub share-floor : (K : Kernel) (t : Tap)

@@ -14,12 +14,11 @@ use Rattle.integers.proofs.Parts.{add-parts, mul-parts}
 use Rattle.integers.proofs.Divide.{floor-law, ceil-law}
 use Rattle.integers.proofs.Near.{Near, near-trans, near-mono, near-zero, near-scale, near-rescale, near-add, near-mul, near-mul-bounded, near-round, near-of-abs, abs-of-near, near-clamp}
 use Rattle.lists.proofs.Count.{bit-one}
-use Rattle.model.specs.Examples
 use Rattle.model.specs.Plane.{Neighbourhood}
 use Rattle.model.specs.Kernel.{Tap, tap, Kernel, weightedSum, magnitude}
 use Rattle.model.specs.Apportion.{quotient, getsUnit, share, apportion}
 use Rattle.model.specs.Weighted.{rowValue, weightedResult}
 use Rattle.model.specs.Tolerance.{scaledGain, weightedGrowth}
 
 -- ---- weighted sums
 

@@ -12,18 +12,18 @@ use Rattle.integers.proofs.Divide.{clamp-le}
 use Rattle.integers.proofs.Near.{mul-min}
 use Rattle.lists.specs.Tabulate.{raster}
 use Rattle.lists.proofs.Pairs.{pairs-at, pairs-raster}
 use Rattle.model.specs.Border.{Border}
 use Rattle.model.specs.Plane.{Plane, Neighbourhood, planeOf, pick, around}
 use Rattle.model.specs.Weighted.{weightedResult}
 use Rattle.model.specs.Stage.{Work, weighted, box, rank, Stage, result, stagePlane, written}
 use Rattle.model.specs.Tolerance.{growth, afterStage, toleranceFrom, tolerance}
 use Rattle.model.specs.Exact.{denominator, numerator, exactPlane, exactFrom, denominatorFrom, exact, exactDenominator}
 use Rattle.model.specs.Within.{distance, Within}
 use Rattle.model.specs.Sound.{SoundWork, Sound, Bytes}
-use Rattle.model.proofs.Weighted.{Close, weighted-close}
-use Rattle.model.proofs.Window.{area-pos}
-use Rattle.model.proofs.Box.{box-le, box-close}
-use Rattle.model.proofs.Rank.{rank-le, rank-close}
+use Rattle.model_laws.proofs.Weighted.{Close, weighted-close}
+use Rattle.model_laws.proofs.Window.{area-pos}
+use Rattle.model_laws.proofs.Box.{box-le, box-close}
+use Rattle.model_laws.proofs.Rank.{rank-le, rank-close}
 
 -- ---- the frame rule supplies to two planes alike, whatever it is
 

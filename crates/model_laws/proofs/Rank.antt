@@ -17,11 +17,11 @@ use Rattle.lists.specs.Count.{count}
 use Rattle.lists.proofs.Count.{Bit, one, none, bit-le}
 use Rattle.lists.proofs.Pairs.{Pairs, more, pairs-flip, pairs-length}
 use Rattle.lists.proofs.Pairs
 use Rattle.model.specs.Plane.{Neighbourhood}
 use Rattle.model.specs.Window.{area, window}
 use Rattle.model.specs.Rank.{insert, sort, smallest, rankResult}
-use Rattle.model.proofs.Weighted.{Close}
-use Rattle.model.proofs.Window.{length-window, pairs-window, Apart}
+use Rattle.model_laws.proofs.Weighted.{Close}
+use Rattle.model_laws.proofs.Window.{length-window, pairs-window, Apart}
 
 -- how many are at most v
 abbrev pub atMost : ℕ → List ℕ → ℕ

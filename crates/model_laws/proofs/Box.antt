@@ -9,11 +9,11 @@ use Rattle.integers.specs.Divide.{clamp}
 use Rattle.integers.specs.Sum.{sum}
 use Rattle.integers.proofs.Divide.{clamp-inside}
 use Rattle.integers.proofs.Near.{near-clamp}
 use Rattle.model.specs.Plane.{Neighbourhood}
 use Rattle.model.specs.Window.{area, window}
 use Rattle.model.specs.Box.{boxResult}
-use Rattle.model.proofs.Weighted.{Close}
-use Rattle.model.proofs.Window.{length-window, area-pos, pairs-window, Apart, apart-sum, sum-le}
+use Rattle.model_laws.proofs.Weighted.{Close}
+use Rattle.model_laws.proofs.Window.{length-window, area-pos, pairs-window, Apart, apart-sum, sum-le}
 
 pub box-le : (r s : ℕ) (f : Neighbourhood) → ((i j : ℤ) → f i j ≤ 255) → boxResult r s f ≤ 255
 unfolding boxResult

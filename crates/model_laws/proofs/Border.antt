@@ -9,8 +9,7 @@ use lib.Dec.{T, ltb, ltb→lt, lt→ltb}
 use lib.IntN.{ℤ, pos, negsuc}
 use Rattle.integers.proofs.Divide.{divided}
 use Rattle.integers.specs.Divide.{modulo}
-use Rattle.model.specs.Examples
 use Rattle.model.specs.Border.{Border, constant, nearest, mirror, wrap, inside, closest, reflected, supply}
 
 abbrev pub Inside : ℕ → Option ℕ → Type 0
 Inside n none = Unit {0}

@@ -9,13 +9,13 @@ use Rattle.integers.specs.Divide.{ceilDiv}
 use Rattle.integers.specs.Sum.{sum}
 use Rattle.integers.proofs.Divide.{ceil-least, ceil-mono}
 use Rattle.integers.proofs.Near.{near-magnitude}
 use Rattle.model.specs.Border.{Border}
 use Rattle.model.specs.Kernel.{Tap, Kernel, weightedSum, magnitude}
 use Rattle.model.specs.Apportion.{share, apportion}
 use Rattle.model.specs.Weighted.{rowValue}
 use Rattle.model.specs.Stage.{weighted, stage}
 use Rattle.model.specs.Tolerance.{scaledGain, weightedGrowth, growth, afterStage, toleranceFrom, tolerance}
-use Rattle.model.proofs.Weighted.{near-share, gain-law, abs-weightedSum, abs-row}
+use Rattle.model_laws.proofs.Weighted.{near-share, gain-law, abs-weightedSum, abs-row}
 
 -- at most 31 taps, and a gain of at most c
 pub record Limited (c : ℕ) (K : Kernel) : Type 0 where

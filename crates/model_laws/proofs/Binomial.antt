@@ -12,9 +12,8 @@ use Rattle.integers.proofs.Parts.{sub-parts}
 use Rattle.integers.proofs.Order.{lt-of-parts}
 use Rattle.lists.specs.Tabulate.{tabulate}
 use Rattle.lists.proofs.Tabulate.{tabulate-getD, mem-tabulate}
-use Rattle.model.specs.Examples
 use Rattle.model.specs.Kernel.{tap, kernel, total, Rising}
 use Rattle.model.specs.Binomial.{pairSums, pascalRow, choose, binomial}
 
 -- ---- Pascal's rule
 

@@ -1,0 +1,11 @@
+-- What is proved of the definitions.
+pub mod Border
+pub mod Apportion
+pub mod Binomial
+pub mod Flat
+pub mod Weighted
+pub mod Window
+pub mod Box
+pub mod Rank
+pub mod Chain
+pub mod Bounds

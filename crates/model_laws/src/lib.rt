@@ -1,0 +1,1 @@
+// What is proved of the model, the tolerance theorem above all (proofs/): no code.
