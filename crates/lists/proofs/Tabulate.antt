@@ -8,7 +8,7 @@ use native.Mathlib.Nat.{not-suc-le-zero, le-of-suc-le-suc, zero-lt-suc, zero-add
 use native.Mathlib.Numerals.{add-one}
 use native.Mathlib.Omega.{arith}
 use lib.ListN.{length, getD, set, take, drop, length-append, length-drop, replicate, List·getD-append}
-use lib.Seq.{getD-take, getD-drop, getD-append-add, drop-at}
+use lib.Seq.{getD-take, getD-drop, getD-append-add, take-at, drop-at}
 use Rattle.lists.specs.Tabulate.{tabulate}
 use Rattle.lists.proofs.Part.{tail-mid, drop-past, front-more}
 
@@ -48,6 +48,10 @@ module _ {A : Type 0} where
   -- the next store, of a value that is f's at n
   pub fill-more : (f : ℕ → A) (n : ℕ) (d l : List A) (v : A) → n < length d → l ≡ tabulate f n ++ drop n d → v ≡ f n → set l n v ≡ tabulate f (n + 1) ++ drop (n + 1) d
   fill-more f n d l v h e w = rw (e, w, add-one) (fill-suc f n d h)
+
+  -- a front that is filled as far as it is wanted
+  pub filled-front : (f : ℕ → A) (n i : ℕ) (d l : List A) → i ≤ n → n ≤ i → l ≡ tabulate f i ++ drop i d → take n l ≡ tabulate f n
+  filled-front f n i d l a b e = let same : i ≡ n = omega arith in ap (λ (k : List A). take n k) (rw same at e) ∙ take-at (tabulate f n) (drop n d) n (length-tabulate f n)
 
   pub length-filled : (f : ℕ → A) (n : ℕ) (d : List A) → n ≤ length d → length (tabulate f n ++ drop n d) ≡ length d
   length-filled f n d h = simp (length-append, length-tabulate, length-drop) (omega arith)

@@ -1,12 +1,11 @@
 -- `binomials::offsets` meets its contract. Assumes nothing.
 use Prim.Native.Nat.{ℕ, _-_, _+_, _*_, _≤_}
 use native.Mathlib.Omega.{arith}
-use mathlib.Core.Path.{_≡_, refl, sym, ap, _∙_}
+use mathlib.Core.Path.{_≡_, refl, sym}
 use mathlib.Core.List.{_++_}
-use lib.ListN.{length, drop, take, length-set}
-use lib.Seq.{take-at}
+use lib.ListN.{length, drop, length-set}
 use Rattle.lists.specs.Tabulate.{tabulate}
-use Rattle.lists.proofs.Tabulate.{fill-none, fill-more, length-tabulate}
+use Rattle.lists.proofs.Tabulate.{fill-none, fill-more, filled-front}
 use borrow.Author.Needs.{needs}
 use Rattle.binomials.proofs.offsets.Statement.{statement}
 use Rattle.binomials.proofs.offsets.Tie as tie
@@ -48,9 +47,8 @@ loop-again c =
 
 returns : tie.Need-returns Inv-loop μ-loop
 returns c =
-    let n = 2 * c .before .before .args .r + 1 in
-    let e : c .before .loop .k ≡ n = omega (arith, c .before .loop .inv .0, c .loop-test .left) in
-    (sym (c .before .loop .inv .2), ap (λ l. take n l) (rw e at (c .before .loop .inv .1)) ∙ take-at _ _ n (length-tabulate _ n))
+    let L = c .before .loop in
+    (sym (L .inv .2), filled-front _ (2 * c .before .before .args .r + 1) (L .k) _ _ (L .inv .0) (omega (arith, c .loop-test .left)) (L .inv .1))
 
 pub offsets-spec : {M : Type 1} → statement M
 offsets-spec = tie.close (tie.spec Inv-loop μ-loop loop-holds mul-loop add-held sub-held cast-held array-write-held add-k loop-less loop-again returns)

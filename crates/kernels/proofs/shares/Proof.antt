@@ -1,17 +1,15 @@
 -- `kernels::shares` meets its contract: what is stored at i is the model's weight of tap i. Assumes nothing.
 use Prim.Native.Nat.{ℕ, _-_, _+_, _≤_}
-use native.Mathlib.Nat.{le-antisymm}
 use native.Mathlib.Omega.{arith}
 use mathlib.Core.Path.{_≡_, refl, sym, ap, _∙_}
 use mathlib.Core.Bool.{Bool, cond}
 use mathlib.Core.List.{_++_}
-use lib.ListN.{length, drop, take, length-set}
-use lib.Seq.{take-at}
+use lib.ListN.{length, drop, length-set}
 use mir.Syntax.{w32}
 use mir.Val.{toZ, ofZ}
 use denote.Ref.{now}
 use Rattle.lists.specs.Tabulate.{tabulate}
-use Rattle.lists.proofs.Tabulate.{fill-none, fill-more, length-tabulate}
+use Rattle.lists.proofs.Tabulate.{fill-none, fill-more, filled-front}
 use Rattle.model.specs.Apportion.{share}
 use Rattle.kernels.specs.Kernel.{tapOf, kernelOf}
 use Rattle.kernels.proofs.Units.{one-within, rest-small, unit-is, weight-is, shares-are}
@@ -86,9 +84,9 @@ loop-again c =
 
 returns : tie.Need-returns Inv-loop μ-loop
 returns c =
-    let e = le-antisymm (c .before .loop .inv .0) (c .loop-test .left) in
+    let L = c .before .loop in
     let a = c .before .before .before .before .before .before .before .args in
-    (sym (c .before .loop .inv .2), ap (λ l. take (a .n) l) (rw e at (c .before .loop .inv .1)) ∙ take-at _ _ (a .n) (length-tabulate _ (a .n)) ∙ sym (shares-are (a .divisor) (now (a .offsets)) (now (a .values)) (a .n)))
+    (sym (L .inv .2), filled-front _ (a .n) (L .i) _ _ (L .inv .0) (c .loop-test .left) (L .inv .1) ∙ sym (shares-are (a .divisor) (now (a .offsets)) (now (a .values)) (a .n)))
 
 pub shares-spec : {M : Type 1} → statement M
 shares-spec =
