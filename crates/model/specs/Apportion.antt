@@ -1,4 +1,4 @@
--- Weights into 65,536ths, along one axis.
+-- 'Weights into 65,536ths', along one axis.
 use Prim.Native.Nat.{ℕ, _*_}
 use mathlib.Core.Bool.{Bool, cond, _&&_, _||_}
 use mathlib.Core.List.{List, map}
@@ -10,27 +10,27 @@ use Rattle.integers.specs.Sum.{sumℤ}
 use Rattle.lists.specs.Count.{count}
 use Rattle.model.specs.Kernel.{Tap, tap, Kernel, total}
 
--- "q = floor(65,536 a/D) for each tap"
+-- a tap's quotient, its weight in 65,536ths rounded down: floor(65,536 a/D)
 unfoldable pub quotient : ℕ → Tap → ℤ
 quotient D t = floorDiv (pos 65536 *ℤ t .weight) D
 
--- "with remainder"
+-- a tap's remainder, what that division leaves over: 0 to D - 1
 unfoldable pub remainder : ℕ → Tap → ℕ
 remainder D t = modulo (pos 65536 *ℤ t .weight) D
 
--- "The wanted total is floor(65,536 (sum of a)/D + 1/2)", here over 2D
+-- the wanted total, floor(65,536 (sum of a)/D + 1/2): here over 2D
 unfoldable pub wantedTotal : Kernel → ℤ
 wantedTotal K = floorDiv (pos 131072 *ℤ total (K .taps) +ℤ pos (K .divisor)) (2 * K .divisor)
 
--- "The units still lacking"
+-- how many spare units there are: by how much the quotients together fall short of the wanted total
 unfoldable pub lacking : Kernel → ℤ
 lacking K = wantedTotal K -ℤ sumℤ (map (quotient (K .divisor)) (K .taps))
 
--- whether s comes before t: "the taps with the largest remainders, the lower offset first among equals"
+-- whether s is served before t: a larger remainder wins, and between equal ones the smaller offset
 unfoldable pub comesBefore : ℕ → Tap → Tap → Bool
 comesBefore D s t = ltb (remainder D t) (remainder D s) || eqb (remainder D s) (remainder D t) && ltZ (s .offset) (t .offset)
 
--- the units "go one each": t gets one if fewer taps come before it than units are lacking
+-- whether t gets a spare unit, never more than one: fewer taps are served before it than there are units
 unfoldable pub getsUnit : Kernel → Tap → Bool
 getsUnit K t = ltZ (pos (count (λ s. comesBefore (K .divisor) s t) (K .taps))) (lacking K)
 
@@ -38,6 +38,6 @@ getsUnit K t = ltZ (pos (count (λ s. comesBefore (K .divisor) s t) (K .taps))) 
 unfoldable pub share : Kernel → Tap → Tap
 share K t = tap (t .offset) (quotient (K .divisor) t +ℤ pos (cond (getsUnit K t) 1 0))
 
--- "This gives A (horizontal) and B (vertical)"
+-- the weights of a kernel in 65,536ths: A of the horizontal one, B of the vertical one
 unfoldable pub apportion : Kernel → List Tap
 apportion K = map (share K) (K .taps)

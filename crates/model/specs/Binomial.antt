@@ -1,4 +1,4 @@
--- Binomial kernels.
+-- Binomial kernels, kind 3 of 'Recipe bytes'.
 use Prim.Native.Nat.{ℕ, zero, suc, _+_, _*_, _^_}
 use mathlib.Core.List.{List, [], _∷_}
 use lib.ListN.{getD}
@@ -20,6 +20,6 @@ pascalRow (suc n) = pairSums 0 (pascalRow n)
 unfoldable pub choose : ℕ → ℕ → ℕ
 choose n k = getD (pascalRow n) k 0
 
--- "taps C(2r,k)/2^(2r) at offset k-r"
+-- the kernel of radius r: at offset k-r the fraction C(2r,k)/2^(2r), for k from 0 to 2r
 unfoldable pub binomial : ℕ → Kernel
 binomial r = kernel (2 ^ (2 * r)) (tabulate (λ k. tap (pos k -ℤ pos r) (pos (choose (2 * r) k))) (2 * r + 1))

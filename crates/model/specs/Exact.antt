@@ -1,4 +1,4 @@
--- The exact chain. "In whole numbers: an exact plane is numerators over one common denominator N".
+-- The exact chain of 'Tolerance', without fractions: a plane of whole numerators, and one denominator N for all of them.
 use Prim.Native.Nat.{ℕ, _*_}
 use mathlib.Core.List.{List, [], _∷_}
 use lib.IntN.{ℤ, pos}
@@ -11,19 +11,19 @@ use Rattle.model.specs.Window.{area, window}
 use Rattle.model.specs.Rank.{smallest}
 use Rattle.model.specs.Stage.{Work, weighted, box, rank, Stage}
 
--- N "which a weighted stage multiplies by its two D (2^35 each for reals, 2^(2r) and 2^(2s) for a binomial), a box by its area, any other stage by 1"
+-- the N after a work: weights multiply it by the D of both kernels (2^35 of reals, 2^(2r) of a binomial of radius r), a box by its window's area; a rank keeps it
 unfoldable pub denominator : ℕ → Work → ℕ
 denominator N (weighted across down) = N * (across .divisor * down .divisor)
 denominator N (box r s) = N * area r s
 denominator N (rank r s p) = N
 
--- the numerator over the new N: "the unflipped double sum with a/D", "the fractional mean", "the p-th smallest fraction"
+-- the exact result as a numerator over the new N: the sum of a·a'·x over the taps of both kernels, offsets added; the sum of the window; its p-th smallest
 unfoldable pub numerator : Work → Neighbourhood → ℤ
 numerator (weighted across down) x = weightedSum (down .taps) (λ j. weightedSum (across .taps) (λ i. pos (x i j)))
 numerator (box r s) x = pos (sum (window r s x))
 numerator (rank r s p) x = pos (smallest p (window r s x))
 
--- an exact stage. "A border value b enters as b times the N before its stage, and the stage's result is clamped to 0 to 255 times the N after it"
+-- an exact stage: the border value counts as value·N, for the N before the stage, and each numerator is cut to 0 to 255·N', for the N' after it
 unfoldable pub exactPlane : ℕ → ℕ → ℕ → Stage → Plane → Plane
 exactPlane W H N t x u v = clamp (255 * denominator N (t .work)) (numerator (t .work) (around (t .border) (t .value * N) W H x u v))
 
@@ -37,7 +37,7 @@ unfoldable pub denominatorFrom : ℕ → List Stage → ℕ
 denominatorFrom N [] = N
 denominatorFrom N (t ∷ ts) = denominatorFrom (denominator N (t .work)) ts
 
--- N is "1 for the given samples"
+-- the exact chain begins with the samples themselves, over 1
 unfoldable pub exact : ℕ → ℕ → List Stage → List ℕ → List ℕ
 exact W H ts samples = exactFrom W H 1 ts samples
 

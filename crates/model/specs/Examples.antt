@@ -65,11 +65,11 @@ minus n = negℤ (pos n)
 unfoldable pub three : ℕ → ℤ → ℤ → ℤ → Kernel
 three D a b c = kernel D (tap (minus 1) a ∷ tap (pos 0) b ∷ tap (pos 1) c ∷ [])
 
--- "one vertical tap 1/1 at 0"
+-- a single tap, 1/1 at offset 0
 unfoldable pub one : Kernel
 one = kernel 1 (tap (pos 0) (pos 1) ∷ [])
 
--- "Plane 10 20 40, W 3, H 1, s 0"
+-- 'Bench stills': samples are filtered in a plane of 3 by 1, which is 10 20 40 or these backwards, with s 0
 unfoldable pub bench : List Example
 bench =
     row "binomial r 1: nearest" (filtered 3 1 nearest 0 (weighted (binomial 1) (binomial 0)) (10 ∷ 20 ∷ 40 ∷ [])) (samples (13 ∷ 23 ∷ 35 ∷ []))

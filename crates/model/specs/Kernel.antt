@@ -1,11 +1,11 @@
--- Taps and kernels along one axis.
+-- Taps and kernels along one axis, for 'Weights into 65,536ths'.
 use Prim.Native.Nat.{ℕ}
 use mathlib.Core.List.{List, [], _∷_, map, List·Memᴰ}
 use lib.IntN.{ℤ, pos, natAbs, _+ℤ_, _*ℤ_}
 use lib.Signed.{_<ℤ_}
 use Rattle.integers.specs.Sum.{sum, sumℤ}
 
--- a tap: "an offset (i or j)" and a whole weight, the a of "a fraction a/D"
+-- a tap: its offset, called i across and j down, and a whole weight a, the numerator over the D of its axis
 pub record Tap : Type 0 where
   pub offset : ℤ
   pub weight : ℤ
@@ -13,7 +13,7 @@ pub record Tap : Type 0 where
 unfoldable pub tap : ℤ → ℤ → Tap
 tap i a = record { offset = i; weight = a }
 
--- a kernel: the taps of one axis and their D. "D is shared along an axis"
+-- a kernel: the taps of one axis, and the single D that all their weights are over
 pub record Kernel : Type 0 where
   pub divisor : ℕ
   pub taps : List Tap
@@ -30,11 +30,11 @@ weightedSum (t ∷ ts) f = t .weight *ℤ f (t .offset) +ℤ weightedSum ts f
 unfoldable pub total : List Tap → ℤ
 total ts = sumℤ (map (λ t. t .weight) ts)
 
--- the sum of |a|; over D it is "The gain of an axis"
+-- |a| summed over the taps; divided by D it is the axis's gain
 unfoldable pub magnitude : List Tap → ℕ
 magnitude ts = sum (map (λ t. natAbs (t .weight)) ts)
 
--- offsets "strictly rising within an axis": each is below all that follow
+-- offsets that rise along the axis: each is below all that follow
 abbrev pub Rising : List Tap → Type 0
 Rising [] = Unit {0}
 Rising (t ∷ ts) = ((s : Tap) → List·Memᴰ s ts → t .offset <ℤ s .offset) × Rising ts

@@ -1,4 +1,4 @@
--- Document 01's arithmetic, definitions only. Read the files in this order; each says the paper's sentences in quotes.
+-- Document 01's arithmetic, definitions only. Read the files in this order; each names the term of docs/METHOD.md's section that it defines.
 --
 -- Words that come from the two crates below:
 --   floorDiv z m     z / m rounded down               tabulate f n     the list f 0, f 1, .., f (n - 1)

@@ -6,7 +6,7 @@ use lib.ListN.{getD}
 use lib.IntN.{ℤ, pos, _+ℤ_}
 use Rattle.model.specs.Border.{Border, supply}
 
--- a plane: the sample at column u, row v. "Column u and row v count from 0"
+-- a plane: the sample at column u, row v, both from 0
 abbrev pub Plane : Type 0
 Plane = ℕ → ℕ → ℕ
 
@@ -18,12 +18,12 @@ planeOf W samples u v = getD samples (v * W + u) 0
 abbrev pub Neighbourhood : Type 0
 Neighbourhood = ℤ → ℤ → ℕ
 
--- the sample at the two supplied indices; "the stage's border value, if either axis is outside"
+-- the sample at the two supplied indices, or the border value where at least one of them is none
 unfoldable pub pick : ℕ → Plane → Option ℕ → Option ℕ → ℕ
 pick value f none v = value
 pick value f (some u) none = value
 pick value f (some u) (some v) = f u v
 
--- the neighbourhood of column u, row v: "Offsets are added, never flipped"
+-- the neighbourhood of column u, row v: an offset is added to the column or the row, and not subtracted
 unfoldable pub around : Border → ℕ → ℕ → ℕ → Plane → ℕ → ℕ → Neighbourhood
 around border value W H f u v i j = pick value f (supply border W (pos u +ℤ i)) (supply border H (pos v +ℤ j))

@@ -1,4 +1,4 @@
--- Rank work on a neighbourhood.
+-- Rank work ('The three kinds of work') on a neighbourhood.
 use Prim.Native.Nat.{ℕ, _-_}
 use mathlib.Core.Bool.{cond}
 use mathlib.Core.List.{List, [], _∷_}
@@ -17,10 +17,10 @@ unfoldable pub sort : List ℕ → List ℕ
 sort [] = []
 sort (x ∷ xs) = insert x (sort xs)
 
--- "the p-th smallest", p from 1, "equals counted"
+-- the p-th smallest, p from 1: a value that occurs k times takes k positions
 unfoldable pub smallest : ℕ → List ℕ → ℕ
 smallest p xs = getD (sort xs) (p - 1) 0
 
--- "the p-th smallest of the window's samples"
+-- the p-th smallest sample in a window of radii r, s
 unfoldable pub rankResult : ℕ → ℕ → ℕ → Neighbourhood → ℕ
 rankResult r s p f = smallest p (window r s f)

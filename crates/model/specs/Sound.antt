@@ -1,4 +1,4 @@
--- What every stage of a recipe that is read has, and the tolerance theorem needs: D "not 0", p "from 1 to area", a border value that is a byte.
+-- What every stage of a recipe that is read has, and the tolerance theorem needs: each D above 0, p at least 1 and at most the area, a border value that is a byte.
 -- (Outside these the definitions still compute, to nothing of meaning: p 0 acts as 1, and p past the area gives 0.)
 use Prim.Native.Nat.{ℕ, _≤_, _<_}
 use mathlib.Core.List.{List, [], _∷_}

@@ -9,7 +9,7 @@ use Rattle.model.specs.Weighted.{weightedResult}
 use Rattle.model.specs.Box.{boxResult}
 use Rattle.model.specs.Rank.{rankResult}
 
--- "The three kinds of work": two kernels, across and down; radii r, s; radii r, s and position p
+-- 'The three kinds of work': two kernels, across and down; radii r, s; radii r, s and position p
 pub data Work : Type 0 where
   weighted : Kernel → Kernel → Work
   box : ℕ → ℕ → Work

@@ -1,11 +1,11 @@
--- Windows "with radii r across, s down".
+-- The window of a box or a rank ('The three kinds of work'), by its horizontal radius r and its vertical radius s.
 use Prim.Native.Nat.{ℕ, _+_, _*_}
 use mathlib.Core.List.{List}
 use lib.IntN.{pos, _-ℤ_}
 use Rattle.lists.specs.Tabulate.{raster}
 use Rattle.model.specs.Plane.{Neighbourhood}
 
--- "area = (2r+1)(2s+1)"
+-- the area, how many samples a window has: (2r+1)(2s+1)
 unfoldable pub area : ℕ → ℕ → ℕ
 area r s = (2 * r + 1) * (2 * s + 1)
 
