@@ -11,6 +11,6 @@ use Rattle.frame.specs.Padded.{padded}
 unfoldable pub extended : Frame → Window → List ℕ → ℕ → ℕ → ℕ
 extended f x samples i j = padded f samples (15 - x .r + i) (15 - x .s + j)
 
--- the table's entry at column i, row j: the sum of the samples above and to the left, modulo 2^32. "Running sums over a large frame pass 2^32"
+-- the table's entry at column i, row j: the sum of the samples above and to the left, modulo 2^32, since the samples of a large frame add up to more
 unfoldable pub entry : Frame → Window → List ℕ → ℕ → ℕ → ℕ
 entry f x samples i j = sum (raster (extended f x samples) i j) % 2 ^ 32

@@ -1,4 +1,4 @@
--- The fields of kinds 1 and 2, one run at a time: sizes, the offsets of an axis, weights.
+-- The fields of kinds 1 and 2 ('Recipe bytes'), one run at a time: sizes, the offsets of an axis, weights.
 use Prim.Native.Nat.{ℕ, zero, suc, _*_, _^_}
 use mathlib.Core.Bool.{Bool, true, false, cond, _&&_}
 use mathlib.Core.List.{List, [], _∷_, _++_}
@@ -11,11 +11,11 @@ use Rattle.refusals.specs.Refusal.{Test}
 use Rattle.weights.specs.Bits.{accepted}
 use Rattle.recipe_bytes.specs.Bytes.{at, word, signed8, bits, there, field}
 
--- "n, m (1 to 31)"
+-- whether an axis may have n taps
 unfoldable pub isCount : ℕ → Bool
 isCount n = leb 1 n && leb n 31
 
--- reals: "n, m"; ratios: "n, m .., D horizontal, D vertical (unsigned 16 bits, not 0)": how many bytes, and the divisors
+-- the sizes: the two numbers of taps and, of ratios only, the D across and the D down, two bytes each. How many bytes they take, a D from byte k on, and the tests
 unfoldable pub sizesLength : Bool → ℕ
 sizesLength real = cond real 2 6
 
@@ -30,7 +30,7 @@ sizeTests false b =
     ++ field b 4 (leb 1 (word b 2)) Refusal.count
     ++ field b 6 (leb 1 (word b 4)) Refusal.count
 
--- "Offsets are -15 to 15, strictly rising within an axis": k of them, the first at least `least`
+-- the tests of k offsets: the first is at least `least`, every other is above the one before it, and none is over 15
 unfoldable pub offsetTests : ℤ → ℕ → List ℕ → List Test
 offsetTests least zero b = []
 offsetTests least (suc k) b =
@@ -38,16 +38,16 @@ offsetTests least (suc k) b =
     ∷ (leZ least (signed8 (at b 0)) && leZ (signed8 (at b 0)) (pos 15), Refusal.offset)
     ∷ offsetTests (signed8 (at b 0) +ℤ pos 1) k (drop 1 b)
 
--- the offsets of one axis
+-- the offsets of one axis: none is below -15
 unfoldable pub axisTests : ℕ → List ℕ → List Test
 axisTests k b = offsetTests (negℤ (pos 15)) k b
 
--- k weights of reals, each "0 or has magnitude 2^-12 to 4"
+-- the tests of k real weights, four bytes each: which are accepted is said in crate `weights`
 unfoldable pub realTests : ℕ → List ℕ → List Test
 realTests zero b = []
 realTests (suc k) b = there 4 b ∷ (accepted (bits b 0), Refusal.realWeight) ∷ realTests k (drop 4 b)
 
--- k weights: of ratios "signed 16 bits", all allowed
+-- the tests of k weights: those of ratios, two bytes each, only have to be there
 unfoldable pub weightTests : Bool → ℕ → List ℕ → List Test
 weightTests true k b = realTests k b
 weightTests false k b = there (2 * k) b ∷ []

@@ -1,4 +1,4 @@
--- Channels of a raster: "RGB by sample".
+-- Channels of a raster ('P5 and P6'): the samples of one place stand together, of P6 red, green and blue.
 use Prim.Native.Nat.{ℕ, _+_, _*_, _/_, _%_}
 use mathlib.Core.Bool.{cond, _&&_}
 use mathlib.Core.List.{List}

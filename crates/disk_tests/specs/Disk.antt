@@ -1,4 +1,4 @@
--- What is found of the two files on disk.
+-- What the program finds of its two input files.
 use Prim.Native.Nat.{ℕ}
 use mathlib.Core.Bool.{Bool, true, false}
 use mathlib.Core.List.{List, [], _∷_}
@@ -20,7 +20,7 @@ abbrev pub size : Loaded → ℕ
 size Unread = 0
 size (Bytes n) = n
 
--- "21 still over 65,536 bytes or recipe over 4,096; 22 cannot be read. Both tests on the still come before both on the recipe, 22 before 21."
+-- refusals 21 and 22 ('Who causes which refusal'): the still, then the recipe, and of each first that it was read (22), then that it is not too long (21)
 unfoldable pub diskTests : Loaded → Loaded → List Test
 diskTests still recipe =
     (isRead still, Refusal.fileUnread)

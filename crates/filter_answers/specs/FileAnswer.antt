@@ -15,7 +15,7 @@ use Rattle.answers.specs.declared.File.the-variants.{Refused, Picture}
 use Rattle.room.specs.declared.Lent.{Lent}
 use Rattle.room.specs.Room.{roomTests}
 
--- "The output needs header plus raster"
+-- how many bytes the written file has: its header's, and one for each sample
 unfoldable pub fileSize : ℕ → ℕ → ℕ → ℕ
 fileSize W H c = length (headerBytes W H c) + W * H * c
 
@@ -24,7 +24,7 @@ abbrev pub stillAnswer : List Stage → Lent → Still → File
 stillAnswer ts l (Still.Refused n) = Refused n
 stillAnswer ts l (Still.Picture W H c start) = tested Refused (roomTests W H ts (fileSize W H c) l) (Picture W H c (tolerance ts) (fileSize W H c))
 
--- "filter a file, giving W, H, channels, T and the output length (recipe, still, 20)", or a refusal
+-- the answer of `filter_file`: the picture's size, T and the length written, or the first refusal: the recipe's, then the still's, then 20
 unfoldable pub fileAnswer : List ℕ → List ℕ → Lent → File
 fileAnswer recipe still l = tested Refused (recipeTests recipe) (stillAnswer (recipeStages recipe) l (stillOf still))
 

@@ -14,7 +14,7 @@ use Rattle.answers.specs.declared.Filtered.the-variants.{Refused, Tolerance}
 use Rattle.room.specs.declared.Lent.{Lent}
 use Rattle.room.specs.Room.{roomTests}
 
--- the tests after the recipe's, for a plane of n samples: "14 if S is not 1, then 3, 5, 6, 20". The output needs, "for a plane W·H"
+-- the tests after the recipe's, for a plane of n samples: only one stage (14), the sides (3), n too small (5) or too large (6), what is lent (20), W·H bytes of output in it
 unfoldable pub planeTests : List ℕ → ℕ → ℕ → ℕ → Lent → List Test
 planeTests recipe W H n l =
     (eqb (at recipe 0) 1, Refusal.count)
@@ -23,6 +23,6 @@ planeTests recipe W H n l =
     ∷ (leb n (W * H), Refusal.rasterLong)
     ∷ roomTests W H (recipeStages recipe) (W * H) l
 
--- "filter one plane by a one-stage recipe, giving T", or a refusal
+-- the answer of `filter_plane`: T, or the first refusal
 unfoldable pub planeAnswer : List ℕ → ℕ → ℕ → ℕ → Lent → Filtered
 planeAnswer recipe W H n l = tested Refused (recipeTests recipe ++ planeTests recipe W H n l) (Tolerance (tolerance (recipeStages recipe)))

@@ -1,4 +1,4 @@
--- A header after the magic: "separators, width, separators, height, separators, 255, exactly one whitespace byte".
+-- A header after the magic ('P5 and P6'): width, height and maximum, each behind separators of its own, and after the maximum a single whitespace byte.
 use Prim.Native.Nat.{ℕ, _+_}
 use mathlib.Core.Bool.{Bool, false, _&&_}
 use mathlib.Core.List.{List}

@@ -1,4 +1,4 @@
--- The header that is written, and a text that is built in an array.
+-- The header that is written ('P5 and P6'), and a text that is built in an array.
 use Prim.Native.Nat.{ℕ, zero, suc, _+_, _/_, _%_}
 use mathlib.Core.Path.{_≡_}
 use mathlib.Core.Bool.{true, false, cond}
@@ -25,10 +25,10 @@ decimalIn (suc steps) n = elim (ltb n 10) [ true ↦ (48 + n) ∷ [] | false ↦
 unfoldable pub decimal : ℕ → List ℕ
 decimal n = decimalIn (suc n) n
 
--- "magic, LF"
+-- the first line, with its LF: P5 for one channel, P6 for three
 unfoldable pub magicLine : ℕ → List ℕ
 magicLine c = 80 ∷ cond (eqb c 1) 53 54 ∷ 10 ∷ []
 
--- "magic, LF, width, blank, height, LF, 255, LF"
+-- the three lines of a header, each with its LF: the magic; width and height, with one blank between them; 255
 unfoldable pub headerBytes : ℕ → ℕ → ℕ → List ℕ
 headerBytes w h c = magicLine c ++ decimal w ++ (32 ∷ []) ++ decimal h ++ (10 ∷ 50 ∷ 53 ∷ 53 ∷ 10 ∷ [])

@@ -4,6 +4,6 @@ use mathlib.Core.List.{List}
 use Rattle.model.specs.Stage.{Stage, written}
 use Rattle.channels.specs.Channel.{channel, interleave}
 
--- the filtered raster: "each channel goes through all of them by itself"
+-- the filtered raster: its channel k is the written chain of channel k alone, through all stages
 unfoldable pub filteredRaster : ℕ → ℕ → ℕ → List Stage → List ℕ → List ℕ
 filteredRaster W H c ts raster = interleave c (W * H) (λ k. written W H ts (channel c (W * H) raster k))

@@ -13,7 +13,7 @@ use Rattle.answers.specs.declared.Recipe.the-variants.{Refused, Stages}
 use Rattle.recipe_bytes.specs.Bytes.{at, field}
 use Rattle.recipe_stages.specs.StageBytes.{stageTests, stageLength, stageOf}
 
--- k stages one after the other; "then the end": "bytes after the last stage"
+-- k stages one after the other: their tests, the last of all that no byte is left over, and the stages
 unfoldable pub stagesTests : ℕ → List ℕ → List Test
 stagesTests zero b = (eqb (length b) 0, Refusal.trailing) ∷ []
 stagesTests (suc k) b = stageTests b ++ stagesTests k (drop (stageLength b) b)
@@ -22,7 +22,7 @@ unfoldable pub stagesOf : ℕ → List ℕ → List Stage
 stagesOf zero b = []
 stagesOf (suc k) b = stageOf b ∷ stagesOf k (drop (stageLength b) b)
 
--- "First the stage count S, 1 to 8; then the stages; then the end"
+-- the tests of a recipe ('Recipe bytes'): a first byte S of 1 to 8, and S stages that take up all the rest
 unfoldable pub recipeTests : List ℕ → List Test
 recipeTests b = field b 1 (leb 1 (at b 0) && leb (at b 0) 8) Refusal.stageCount ++ stagesTests (at b 0) (drop 1 b)
 
@@ -30,6 +30,6 @@ recipeTests b = field b 1 (leb 1 (at b 0) && leb (at b 0) 8) Refusal.stageCount 
 unfoldable pub recipeStages : List ℕ → List Stage
 recipeStages b = stagesOf (at b 0) (drop 1 b)
 
--- "read a recipe, giving S and T", or a refusal
+-- the answer of `read_recipe`: S and T, or the first refusal
 unfoldable pub recipeOf : List ℕ → Recipe
 recipeOf b = tested Refused (recipeTests b) (Stages (at b 0) (tolerance (recipeStages b)))

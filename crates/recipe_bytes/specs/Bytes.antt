@@ -1,4 +1,4 @@
--- Numbers in a recipe's bytes: "Big-endian".
+-- Numbers in a recipe's bytes ('Recipe bytes'): the highest byte comes first.
 use Prim.Native.Nat.{ℕ, _+_, _*_}
 use mathlib.Core.Bool.{Bool, cond}
 use mathlib.Core.List.{List, [], _∷_}
@@ -28,7 +28,7 @@ signed16 v = cond (ltb v 32768) (pos v) (pos v -ℤ pos 65536)
 unfoldable pub bits : List ℕ → ℕ → ℕ
 bits b k = pattern (at b k) (at b (k + 1)) (at b (k + 2)) (at b (k + 3))
 
--- the first k bytes are there: "a field cut short or missing"
+-- the first k bytes are there; if not, the recipe ends before a field is complete
 unfoldable pub there : ℕ → List ℕ → Test
 there k b = (leb k (length b), Refusal.cut)
 

@@ -12,7 +12,7 @@ use Rattle.tap_fields.specs.TapFields.{tapTests}
 use Rattle.taps.specs.TapBytes.{kernelAt}
 use Rattle.gain_tests.specs.Gain.{gainTest}
 
--- axis 0 is across, 1 is down: how many taps come before an axis's own, "horizontal entries before vertical"
+-- axis 0 is across, 1 is down: how many taps come before an axis's own in each array, where those across stand in front
 unfoldable pub tapsBefore : ℕ → List ℕ → ℕ
 tapsBefore axis b = cond (eqb axis 0) 0 (at b 0)
 
@@ -23,7 +23,7 @@ kernelOn real axis b =
     (sizesLength real + tapsBefore axis b)
     (sizesLength real + (at b 0 + at b 1) + weightLength real * tapsBefore axis b)
 
--- "gain, tested at the stage's end"
+-- the tests of both gains, which come after those of all fields
 unfoldable pub gainTests : Bool → List ℕ → List Test
 gainTests real b = gainTest (kernelOn real 0 b) ∷ gainTest (kernelOn real 1 b) ∷ []
 

@@ -1,4 +1,4 @@
--- A stage's bytes: the three header bytes, and then the fields of its kind.
+-- A stage's bytes ('Recipe bytes'): the three header bytes, and then the fields of its kind.
 use Prim.Native.Nat.{ℕ, _+_}
 use mathlib.Core.Bool.{true, false, cond}
 use mathlib.Core.List.{List, _++_}
@@ -16,11 +16,11 @@ use Rattle.recipe_bytes.specs.Bytes.{at, word}
 use Rattle.stage_fields.specs.StageFields.{headTests, radiusTests, positionTests}
 use Rattle.recipe_kernels.specs.Kernels.{kernelOn, weightedTests, weightedLength, weightedWork}
 
--- "border 0, constant" · "1, nearest" · "2, mirror" · "3, wrap"
+-- a border by its number: 0 is constant, 1 nearest, 2 mirror and 3 wrap
 unfoldable pub borderOf : ℕ → Border
 borderOf b = cond (eqb b 0) constant (cond (eqb b 1) nearest (cond (eqb b 2) mirror wrap))
 
--- "kind 1, ratios" · "kind 2, reals" · "kind 3, binomial: r, s" · "kind 4, box: r, s" · "kind 5, rank: r, s, p": the tests after the header bytes
+-- the tests after the header bytes, by kind: of the taps for 1 (ratios) and 2 (reals), of the radii for 3 (binomial), 4 (box) and 5 (rank), and for 5 of the position too
 unfoldable pub workTests : ℕ → List ℕ → List Test
 workTests kind b =
     cond (eqb kind 1) (weightedTests false b)

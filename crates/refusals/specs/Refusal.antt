@@ -5,7 +5,7 @@ use mathlib.Core.List.{List, [], _∷_}
 use Rattle.refusals.specs.declared.Verdict.{Verdict}
 use Rattle.refusals.specs.declared.Verdict.the-variants.{Refused, Passed}
 
--- "The camera's file": "magic" · "header malformed or cut" · "a side outside 1 to 8,192" · "maximum not 255" · "raster short" · "bytes after it"
+-- 1 to 6, of a still: no P5 or P6 · a header that lacks a part · a side beyond its limits · a maximum other than 255 · too few samples · too many
 abbrev pub magic : ℕ
 magic = 1
 
@@ -24,7 +24,7 @@ rasterShort = 5
 abbrev pub rasterLong : ℕ
 rasterLong = 6
 
--- "The recipe's author": "stage count" · "a field cut short or missing" · "bytes after the last stage" · "kind, border or border value" · "count, divisor or radius"
+-- 10 to 14, of a recipe: how many stages · an end before a field is complete · more after its last stage · kinds and borders · sizes: how many taps, a D, a radius
 abbrev pub stageCount : ℕ
 stageCount = 10
 
@@ -40,7 +40,7 @@ kind = 13
 abbrev pub count : ℕ
 count = 14
 
--- "offset" · "real weight" · "gain" · "position"
+-- 15 to 18, of a recipe too: an offset · a real weight · an axis's gain · a rank's position
 abbrev pub offset : ℕ
 offset = 15
 
@@ -53,14 +53,14 @@ gain = 17
 abbrev pub position : ℕ
 position = 18
 
--- "The calling program": "channels not 1 or 3" · "a lent buffer too short"
+-- 19 and 20, of a call: how many channels · a lent buffer without enough room
 abbrev pub channels : ℕ
 channels = 19
 
 abbrev pub room : ℕ
 room = 20
 
--- "The two files on disk": "still over 65,536 bytes or recipe over 4,096" · "cannot be read"
+-- 21 and 22, of the program's files: one is too long · one cannot be read or written
 abbrev pub fileLong : ℕ
 fileLong = 21
 

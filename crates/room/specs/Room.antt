@@ -16,8 +16,8 @@ use Rattle.room.specs.declared.Lent.{Lent}
 abbrev pub lent : ℕ → ℕ → ℕ → ℕ → Lent
 lent works rows sums out = record { works = works; rows = rows; sums = sums; out = out }
 
--- "Filtering needs 2·W·H work bytes, W·(H+30) 32-bit row values, and for the box stages the largest (W+2r+1)(H+2s+1) 32-bit sums, 0 without a box."
--- The output needs `size` bytes. "Refusal 20 comes only if one of these is not met"
+-- what a frame of W by H must be lent to be filtered ('Who causes which refusal'): 2·W·H bytes of work, W·(H+30) row values, as many sums as its box stages
+-- need, and `size` bytes of output. These are all the causes of refusal 20
 unfoldable pub roomTests : ℕ → ℕ → List Stage → ℕ → Lent → List Test
 roomTests W H ts size l =
     (leb (2 * (W * H)) (l .works), Refusal.room)
@@ -26,7 +26,7 @@ roomTests W H ts size l =
     ∷ (leb size (l .out), Refusal.room)
     ∷ []
 
--- "all buffers, work included, stay" where a call is refused; "work buffers may hold anything" after success
+-- a work buffer before and after a call: as it was where the call refused (true), and with any content where it filtered
 abbrev pub Kept : {A : Type 0} → Bool → List A → List A → Type 0
 Kept true before after = after ≡ before
 Kept false before after = Unit {0}

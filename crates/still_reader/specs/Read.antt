@@ -16,7 +16,7 @@ unfoldable pub channelsOf : ℕ → ℕ
 channelsOf b = cond (eqb b 53) 1 (cond (eqb b 54) 3 0)
 
 -- the tests after the magic in their order, for a header of c channels and a raster of `rest` bytes:
--- "A whole header is read before 3, then 4, 5, 6"
+-- first that the header is whole, and only then what it says: the sides, the maximum, too few samples, too many
 unfoldable pub headerTests : ℕ → Header → ℕ → List Test
 headerTests c h rest =
     (h .whole, Refusal.header)
@@ -26,14 +26,14 @@ headerTests c h rest =
     ∷ (leb rest (h .width * h .height * c), Refusal.rasterLong)
     ∷ []
 
--- the first: "the first two bytes are not P5 or P6, or there are fewer". Past the end stands 0, which is neither
+-- the test before these: P, and behind it 5 or 6. Past the end stands 0, so that a file of one byte or none fails
 unfoldable pub magicTest : List ℕ → Test
 magicTest bytes = (eqb (getD bytes 0 0) 80 && leb 1 (channelsOf (getD bytes 1 0)), Refusal.magic)
 
--- the answer for c channels and a header after the two magic bytes; `total` bytes in all. "One picture a file"
+-- the answer for c channels and a header after the two magic bytes; `total` bytes in all: nothing may follow the raster, a second picture neither
 unfoldable pub pictureOf : ℕ → Header → ℕ → Still
 pictureOf c h total = tested Refused (headerTests c h (total - (2 + h .size))) (Picture (h .width) (h .height) c (2 + h .size))
 
--- width, height, channels "and the byte place where its raster starts", or a refusal
+-- the answer of `read_still`: width, height, channels and the index of the raster's first byte, or the first refusal
 unfoldable pub stillOf : List ℕ → Still
 stillOf bytes = tested Refused (magicTest bytes ∷ []) (pictureOf (channelsOf (getD bytes 1 0)) (header (drop 2 bytes)) (length bytes))

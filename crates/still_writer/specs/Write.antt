@@ -12,7 +12,7 @@ use Rattle.header_writer.specs.Heading.{headerBytes}
 use Rattle.answers.specs.declared.Written.{Written}
 use Rattle.answers.specs.declared.Written.the-variants.{Refused, Length}
 
--- the tests in their order, for a raster and an output of so many bytes: "write one, giving its length (19, 3, 5, 6, 20)"
+-- the tests in their order, for a raster and an output of so many bytes: channels (19), sides (3), too few samples (5), too many (6), room for the file (20)
 unfoldable pub writeTests : ℕ → ℕ → ℕ → ℕ → ℕ → List Test
 writeTests w h c raster room =
     (isChannels c, Refusal.channels)

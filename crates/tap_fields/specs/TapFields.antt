@@ -1,4 +1,4 @@
--- Kinds 1 and 2, after the three header bytes: sizes, then two parallel arrays, horizontal entries before vertical.
+-- Kinds 1 and 2 ('Recipe bytes'), after the three header bytes: sizes, then an array of offsets and one of weights, in both the taps across before those down.
 use Prim.Native.Nat.{ℕ, _+_}
 use mathlib.Core.Bool.{Bool}
 use mathlib.Core.List.{List, _++_}

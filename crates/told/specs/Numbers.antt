@@ -13,7 +13,7 @@ use Rattle.answers.specs.declared.Filtered.the-variants as Filtered
 use Rattle.answers.specs.declared.File.{File}
 use Rattle.answers.specs.declared.File.the-variants as File
 
--- an answer in numbers: "a refusal carries its number only"
+-- an answer in numbers: one number for a refusal, with nothing beside it, or the values that were asked for
 pub data Told : Type 0 where
   refusal : ℕ → Told
   values : List ℕ → Told
@@ -33,27 +33,27 @@ pub record Tells (told : Told) (array array′ : List ℕ) (r : ℕ) : Type 0 wh
   pub number : r ≡ returned told
   pub numbers : array′ ≡ arrayAfter told array
 
--- "read a still, giving W, H, channels and the byte place where its raster starts"
+-- of `read_still`: width, height, channels, and the index of the raster's first byte
 abbrev pub stillTold : Still → Told
 stillTold (Still.Refused n) = refusal n
 stillTold (Still.Picture W H c start) = values (W ∷ H ∷ c ∷ start ∷ [])
 
--- "write one, giving its length"
+-- of `write_still`: how many bytes were written
 abbrev pub writtenTold : Written → Told
 writtenTold (Written.Refused n) = refusal n
 writtenTold (Written.Length n) = values (n ∷ [])
 
--- "read a recipe, giving S and T"
+-- of `read_recipe`: S and T
 abbrev pub recipeTold : Recipe → Told
 recipeTold (Recipe.Refused n) = refusal n
 recipeTold (Recipe.Stages S T) = values (S ∷ T ∷ [])
 
--- "filter one plane by a one-stage recipe, giving T"
+-- of `filter_plane`: T
 abbrev pub planeTold : Filtered → Told
 planeTold (Filtered.Refused n) = refusal n
 planeTold (Filtered.Tolerance T) = values (T ∷ [])
 
--- "filter a file, giving W, H, channels, T and the output length"
+-- of `filter_file`: width, height, channels, T, and how many bytes were written
 abbrev pub fileTold : File → Told
 fileTold (File.Refused n) = refusal n
 fileTold (File.Picture W H c T n) = values (W ∷ H ∷ c ∷ T ∷ n ∷ [])

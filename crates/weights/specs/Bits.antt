@@ -1,5 +1,5 @@
 -- A weight that arrives as four bytes of IEEE 754 binary32: which patterns are accepted, and the number that each stands for.
--- "A binary32 weight stands for exactly its IEEE 754 value, as a whole number over 2^35; negative zero is zero". Only whole numbers: nothing here names a float.
+-- The number is the pattern's value, unrounded, with 2^35 as its denominator; either zero counts as 0. Only whole numbers: nothing here names a float.
 use Prim.Native.Nat.{ℕ, _+_, _-_, _*_, _/_, _%_, _^_}
 use mathlib.Core.Bool.{Bool, not, _&&_, _||_, cond}
 use lib.IntN.{ℤ, pos, negℤ}
@@ -24,12 +24,12 @@ fraction b = b % 2 ^ 23
 unfoldable pub units : ℕ → ℕ
 units b = cond (eqb (exponent b) 0) (fraction b) ((2 ^ 23 + fraction b) * 2 ^ (exponent b - 1))
 
--- "A real weight is 0 or has magnitude 2^-12 to 4": neither an infinity nor a NaN; and 0 of either sign, or from 2 ^ -12, which is 2 ^ 137 units, to 4, which is 2 ^ 151 units.
+-- The weights that a recipe may have: neither an infinity nor a NaN; and 0 of either sign, or a size from 2 ^ -12, which is 2 ^ 137 units, to 4, which is 2 ^ 151 units.
 unfoldable pub accepted : ℕ → Bool
 unfolding units
 accepted b = not (eqb (exponent b) 255) && (eqb (units b) 0 || (leb (2 ^ 137) (units b) && leb (units b) (2 ^ 151)))
 
--- The value as a whole number over 2 ^ 35: of 2 ^ -149, 2 ^ 114 make one.
+-- The value's numerator over 2 ^ 35: of the units of 2 ^ -149, 2 ^ 114 make one.
 unfoldable pub numeratorBits : ℕ → ℤ
 unfolding units
 numeratorBits b = cond (negative b) (negℤ (pos (units b / 2 ^ 114))) (pos (units b / 2 ^ 114))
