@@ -4,7 +4,7 @@ ghost use Rattle.recipe.specs.Recipe.{recipeOf};
 ghost use Rattle.told.specs.Numbers.{Tells, stillTold, recipeTold};
 ghost use Rattle.capi.specs.Calls.{WritesStill, FiltersPlane, FiltersFile};
 
-// Read a still: width, height, channels, and the byte place where its raster starts.
+// Read a still: width, height, channels, and the index of the raster's first byte.
 #[no_mangle]
 pub extern "C" fn hejslopi_read_still(bytes: &[u8], result: &mut [u64; 4]) -> u32
     ensures { λ r. ⌜ Tells (stillTold (stillOf (now (bytes .entry)))) (now (result .entry)) (now (result .exit)) r ⌝ }
@@ -38,7 +38,7 @@ pub extern "C" fn hejslopi_read_recipe(bytes: &[u8], result: &mut [u64; 2]) -> u
     told::recipe(recipe::read_recipe(bytes), result)
 }
 
-// Filter a plane by a one-stage recipe: T.
+// Filter a plane by a recipe of one stage: T.
 #[no_mangle]
 pub extern "C" fn hejslopi_filter_plane(
     recipe: &[u8],

@@ -1,4 +1,4 @@
-// The two files on disk, tested in document 01's order.
+// The program's two input files, tested in document 01's order ('Who causes which refusal').
 ghost use mathlib.Core.Path.{_≡_};
 ghost use Rattle.disk_tests.specs.Disk.{found};
 

@@ -42,7 +42,7 @@ fn run(
     );
 }
 
-// Filter a file, giving the picture's size, T and the output's length, or a recipe's refusal, a still's, or 20.
+// Filter a file: the picture's size, T and how many bytes were written, or the recipe's refusal, the still's, or 20.
 pub fn filter_file(
     recipe: &[u8],
     still: &[u8],

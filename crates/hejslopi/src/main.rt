@@ -1,4 +1,4 @@
-// Filters the file `still` by the file `recipe` into the file `out`, and prints one line: `ok W H channels T` or `no N`.
+// Filters the file `still` by the file `recipe` into the file `out`, and prints `ok W H channels T`, or `no N` for a refusal.
 use answers::File;
 use disk_tests::Found;
 

@@ -164,7 +164,7 @@ pub total-more : (c : List ℕ) (n : ℕ) → total c (n + 1) ≡ total c n + ge
 unfolding total
 total-more c n = rw add-one
 
--- the first n counts are those of the samples below n
+-- the first n counts add up to how many samples are below n
 total-below : (xs : List ℕ) (n : ℕ) → n ≤ 256 → total (histogram xs) n ≡ below n xs
 unfolding total
 total-below xs zero h = sym (below-none xs)

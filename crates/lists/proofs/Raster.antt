@@ -39,7 +39,7 @@ module _ {A : Type 0} where
   unfolding raster
   rows-more g w v at d l part e f el ep = rw add-one (front-more (raster g w v) (tabulate (λ u. g u v) w) d l part at w (length-raster g w v ∙ sym e) el ep)
 
-  -- what stands at column u and row v
+  -- what stands at column u, row v
   pub getD-raster : (g : ℕ → ℕ → A) (w h u v : ℕ) (d : A) → u < w → v < h → getD (raster g w h) (v * w + u) d ≡ g u v
   unfolding raster
   getD-raster g w zero u v d a b = absurd (not-suc-le-zero b)

@@ -1,4 +1,4 @@
--- "a sum of 1 leave flat areas flat": a flat plane comes out of a weighted stage as it went in, with every border but a differing constant. Assumes nothing.
+-- Weights that sum to 1: a flat plane comes out of a weighted stage as it went in, with every border but a differing constant. Assumes nothing.
 use Prim.Native.Nat.{ℕ, _+_, _*_, _/_, _≤_, _<_}
 use native.Mathlib.Nat.{div-eq-of-lt-le, mul-comm, one-le-pow}
 use native.Mathlib.Omega.{arith}

@@ -40,7 +40,7 @@ pub fn raised(value: u64, divisor: u64) -> u64
     262144 * divisor + 65536 * value - 18014398509481984
 }
 
-// A gain times 65,536, rounded up.
+// 65,536 times a gain, rounded up.
 pub fn scaled_gain(magnitude: u64, divisor: u64) -> u64
     requires { ⌜ (0 < divisor) × (divisor ≤ 2 ^ 35) × (magnitude ≤ 4 * divisor) ⌝ }
     ensures { λ r. ⌜ r ≡ ceilDiv (65536 * magnitude) divisor ⌝ }

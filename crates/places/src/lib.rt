@@ -18,7 +18,7 @@ fn inside(n: usize, x: usize) -> usize
     if x - 15 < n { x - 15 } else { n }
 }
 
-// The closest index inside.
+// The index itself, or the end of the axis that it lies beyond.
 fn closest(n: usize, x: usize) -> usize
     requires { ⌜ (1 ≤ n) × (x ≤ 16384) ⌝ }
     ensures { λ r. ⌜ r ≡ placeOf n (supply nearest n (offsetOf x)) ⌝ }
@@ -53,7 +53,7 @@ fn wrapped(n: usize, x: usize) -> usize
     (x + 15 * (n - 1)) % n
 }
 
-// The index inside an axis of length n that is supplied at place x, or n for the border value.
+// The index, 0 to n - 1, that is supplied at place x of an axis, or n for the border value.
 pub fn place(border: Border, n: usize, x: usize) -> usize
     requires { ⌜ (1 ≤ n) × (n ≤ 8192) × (x ≤ 16384) ⌝ }
     ensures { λ r. ⌜ r ≡ placeOf n (supply (borderIs border) n (offsetOf x)) ⌝ }

@@ -1,4 +1,4 @@
-// Filter a plane by a one-stage recipe.
+// Filter a plane by a recipe of one stage.
 use answers::Filtered;
 use room::Lent;
 ghost use mathlib.Core.Path.{_≡_};
@@ -30,7 +30,7 @@ fn run(
     buffers::copy_front(work, out, n);
 }
 
-// Filter a plane by a one-stage recipe, giving T, or a recipe's refusal, 14, 3, 5, 6 or 20.
+// Filter a plane: T, or the recipe's refusal, 14, 3, 5, 6 or 20.
 pub fn filter_plane(
     recipe: &[u8],
     w: usize,

@@ -1,4 +1,4 @@
-// Rank stages: the counts of grey levels in a window give its p-th smallest sample.
+// Rank stages: how often each grey level occurs in a window gives its p-th smallest sample.
 use frame::Frame;
 use stage_values::Window;
 ghost use mathlib.Core.Path.{_≡_};

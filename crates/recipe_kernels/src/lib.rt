@@ -1,4 +1,4 @@
-// A stage of weights (kinds 1 and 2), after its header bytes: its two kernels, their gains, and all its tests.
+// Kinds 1 and 2, after the header bytes: a stage's two kernels, their gains, and all its tests.
 use kernels::Kernel;
 use recipe_bytes::wide;
 use refusals::Verdict;

@@ -34,12 +34,12 @@ pub const GAIN: u8 = 17;
 
 pub const POSITION: u8 = 18;
 
-// The calling program.
+// The call.
 pub const CHANNELS: u8 = 19;
 
 pub const ROOM: u8 = 20;
 
-// The two files on disk.
+// The program's files.
 pub const FILE_LONG: u8 = 21;
 
 pub const FILE_UNREAD: u8 = 22;

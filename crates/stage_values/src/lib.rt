@@ -14,14 +14,14 @@ pub struct Window {
     pub s: usize,
 }
 
-// What a stage does to each neighbourhood; a rank takes the p-th smallest of its window.
+// What a stage does to each neighbourhood; a rank takes its window's p-th smallest sample.
 pub enum Work {
     Weighted,
     Boxed(Window),
     Ranked(Window, usize),
 }
 
-// The taps of one axis: offsets 15 too large, weights in 65,536ths, and the gain times 65,536, rounded up.
+// The taps of one axis: offsets 15 too large, weights in 65,536ths, and 65,536 times the gain, rounded up.
 pub struct Axis {
     pub offsets: [u8; 31],
     pub weights: [i32; 31],

@@ -1,4 +1,4 @@
-// Reads a still: its size, its channels, and where its raster starts.
+// Reads a still: its size, its channels, and the place of its raster.
 use answers::Still;
 use header_reader::Header;
 ghost use mathlib.Core.Path.{_≡_};

@@ -43,7 +43,7 @@ fn put(width: usize, height: usize, channels: usize, raster: &[u8], out: &mut [u
     buffers::copy_front(raster, &mut out[start..], raster.len());
 }
 
-// Write a still, giving its length, or refusal 19, 3, 5, 6 or 20.
+// Write a still: how many bytes were written, or refusal 19, 3, 5, 6 or 20.
 pub fn write_still(
     width: usize,
     height: usize,

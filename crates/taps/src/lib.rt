@@ -1,4 +1,4 @@
-// Taps from the two parallel arrays of a stage of weights, as a kernel.
+// The taps of a stage of weights, from its array of offsets and its array of weights, as a kernel.
 use kernels::Kernel;
 use weights::Weight;
 ghost use mathlib.Core.Path.{_≡_};

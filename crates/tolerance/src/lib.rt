@@ -19,7 +19,7 @@ fn cut(x: u64) -> u64
     if x < 16711680 { x } else { 16711680 }
 }
 
-// The tolerance so far, in 65,536ths of a level.
+// The tolerance so far, as a number of 65,536ths of a grey level.
 pub struct Tolerance {
     pub units: u64,
 }
@@ -31,7 +31,7 @@ impl Tolerance {
         Tolerance { units: 0 }
     }
 
-    // g1, g2 are the gains across and down times 65,536, rounded up; n, m the numbers of taps.
+    // g1, g2 are 65,536 times the gains across and down, rounded up; n, m the numbers of taps.
     pub fn after_weighted(self, g1: u64, g2: u64, n: usize, m: usize) -> Self
         requires { ⌜ (self .units ≤ 16711680) × (g1 ≤ 2 ^ 18) × (g2 ≤ 2 ^ 18) × (n ≤ 31) × (m ≤ 31) ⌝ }
         ensures { λ r. ⌜ (r .units ≡ min (weightedGrowth g1 g2 n m (self .units)) 16711680) × (r .units ≤ 16711680) ⌝ }

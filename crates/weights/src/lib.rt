@@ -10,7 +10,7 @@ pub enum Weight {
     Real(f32),
 }
 
-// A tap of reals: its offset's byte and its weight, from the two parallel arrays of a recipe.
+// A tap of reals: its offset's byte, from a recipe's array of offsets, and its weight, from the array of weights.
 pub struct RealTap {
     pub offset: u8,
     pub weight: f32,
@@ -23,7 +23,7 @@ pub fn real_bits(b0: u8, b1: u8, b2: u8, b3: u8) -> u32
     ((b0 as u32 * 256 + b1 as u32) * 256 + b2 as u32) * 256 + b3 as u32
 }
 
-// The range test in f32: 0 of either sign, or of a magnitude from 2^-12 to 4.
+// The range test, in f32: 0 of either sign, or a size from 2^-12 to 4.
 fn in_range(x: f32) -> bool
     ensures { λ r. ⌜ r ≡ inRange x ⌝ }
 {
@@ -57,7 +57,7 @@ pub fn real_tap(offset: u8, bits: u32) -> RealTap
     RealTap { offset, weight }
 }
 
-// Either kind of weight as a numerator: a real over 2^35. Scaling is exact, and `as` is defined only where it loses nothing: not of -0.0.
+// Either kind of weight as a numerator: a real over 2^35. The product needs no rounding, and `as` is defined only where the very same number comes out: not of -0.0.
 pub fn numerator(w: Weight) -> i64
     requires { ⌜ T (usable w) ⌝ }
     ensures { λ r. ⌜ r ≡ numeratorOf w ⌝ }
