@@ -5,7 +5,7 @@
  *
  * Every call returns 0 when it is done, or the number of a refusal. The first test that fails decides.
  * - Done: the values are in `result`, in the order given below. The output is written from its start; what is behind it in
- *   the lent buffer stays. The work buffers (work, rows, sums) may hold anything.
+ *   the lent buffer stays. Of the work buffers (work, rows, sums) nothing is promised.
  * - Refused: no lent buffer is altered, neither `result`, nor the output, nor the work buffers.
  * No content of the given bytes and no length of a lent buffer is an error of the program: each is answered.
  *
@@ -33,35 +33,36 @@ extern "C" {
 enum hejslopi_refusal {
     HEJSLOPI_DONE = 0,
 
-    /* the camera's file */
-    HEJSLOPI_MAGIC = 1,        /* the first two bytes are not P5 or P6, or there are fewer */
-    HEJSLOPI_HEADER = 2,       /* header malformed or cut */
-    HEJSLOPI_SIDE = 3,         /* a side outside 1 to 8,192 */
-    HEJSLOPI_MAXIMUM = 4,      /* maximum not 255 */
-    HEJSLOPI_RASTER_SHORT = 5, /* raster short */
-    HEJSLOPI_RASTER_LONG = 6,  /* bytes after the raster */
+    /* the still */
+    HEJSLOPI_MAGIC = 1,        /* the file does not begin with P5 or P6 */
+    HEJSLOPI_HEADER = 2,       /* the header lacks a separator, a number or the whitespace byte at its end */
+    HEJSLOPI_SIDE = 3,         /* the width or the height is not from 1 to 8,192 */
+    HEJSLOPI_MAXIMUM = 4,      /* the header's maximum is not 255 */
+    HEJSLOPI_RASTER_SHORT = 5, /* there are fewer samples than the picture's size asks for */
+    HEJSLOPI_RASTER_LONG = 6,  /* there are more samples than the picture's size asks for */
 
-    /* the recipe's author */
-    HEJSLOPI_STAGE_COUNT = 10, /* stage count not 1 to 8 */
-    HEJSLOPI_CUT = 11,         /* a field cut short or missing; an empty recipe too */
-    HEJSLOPI_TRAILING = 12,    /* bytes after the last stage */
-    HEJSLOPI_KIND = 13,        /* kind, border or border value */
-    HEJSLOPI_COUNT = 14,       /* count, divisor or radius; for hejslopi_filter_plane also a recipe of several stages */
-    HEJSLOPI_OFFSET = 15,      /* offset not -15 to 15, or not rising */
-    HEJSLOPI_REAL_WEIGHT = 16, /* real weight neither 0 nor of a magnitude from 2^-12 to 4 */
-    HEJSLOPI_GAIN = 17,        /* gain of an axis over 4 */
-    HEJSLOPI_POSITION = 18,    /* position of a rank not 1 to the window's area */
+    /* the recipe */
+    HEJSLOPI_STAGE_COUNT = 10, /* the number of stages is 0 or over 8 */
+    HEJSLOPI_CUT = 11,         /* the recipe ends before a field is complete */
+    HEJSLOPI_TRAILING = 12,    /* the recipe goes on after its last stage */
+    HEJSLOPI_KIND = 13,        /* a kind is not 1 to 5, a border is over 3, or a border other than constant has a value that is not 0 */
+    HEJSLOPI_COUNT = 14,       /* an axis has 0 or over 31 taps, a divisor is 0, or a radius is over 15; for
+                                  hejslopi_filter_plane also a recipe of several stages */
+    HEJSLOPI_OFFSET = 15,      /* an offset is not -15 to 15, or not above the one before it */
+    HEJSLOPI_REAL_WEIGHT = 16, /* the size of a real weight is neither 0 nor from 2^-12 to 4 */
+    HEJSLOPI_GAIN = 17,        /* an axis has a gain above 4 */
+    HEJSLOPI_POSITION = 18,    /* a rank's position is 0 or above the number of samples in its window */
 
-    /* the calling program */
-    HEJSLOPI_CHANNELS = 19,    /* channels not 1 or 3 */
-    HEJSLOPI_ROOM = 20,        /* a lent buffer too short */
+    /* the call */
+    HEJSLOPI_CHANNELS = 19,    /* the number of channels is neither 1 nor 3 */
+    HEJSLOPI_ROOM = 20,        /* a lent buffer has less room than the call needs */
 
-    /* the two files on disk: only the program that reads files gives these, no call does */
-    HEJSLOPI_FILE_LONG = 21,   /* still over 65,536 bytes or recipe over 4,096 */
-    HEJSLOPI_FILE_UNREAD = 22  /* a file cannot be read, or the output not written */
+    /* the program's files: only the program that reads files gives these, no call does */
+    HEJSLOPI_FILE_LONG = 21,   /* the still is longer than 65,536 bytes, or the recipe longer than 4,096 */
+    HEJSLOPI_FILE_UNREAD = 22  /* a file cannot be opened, read or written */
 };
 
-/* How many elements must be lent for a picture of width w and height h.
+/* How many elements must be lent for a picture of w by h.
  * SUMS is for one box stage of radii r, s: a recipe needs the largest of its box stages, 0 if it has none. SUMS_ANY is enough
  * for every recipe. FILE_ANY is enough for every file of w by h: its header has at most 17 bytes. A plane's output needs w*h. */
 #define HEJSLOPI_WORK(w, h) ((size_t)2 * (w) * (h))
@@ -71,7 +72,7 @@ enum hejslopi_refusal {
 #define HEJSLOPI_FILE_ANY(w, h, channels) ((size_t)17 + (size_t)(w) * (h) * (channels))
 
 /* Read a still, a whole P5 or P6 file.
- * result: width, height, channels (1 or 3), and the byte place in `bytes` where the raster starts.
+ * result: width, height, channels (1 or 3), and the index in `bytes` of the raster's first byte.
  * Refusals: 1, 2, 3, 4, 5, 6. */
 uint32_t hejslopi_read_still(const uint8_t *bytes, size_t bytes_len, uint64_t result[4]);
 
@@ -84,13 +85,13 @@ uint32_t hejslopi_write_still(size_t width, size_t height, size_t channels,
                               uint8_t *out, size_t out_len, uint64_t result[1]);
 
 /* Read a recipe.
- * result: the number of stages S, and the tolerance T in 65,536ths of a level.
+ * result: the number of stages S, and the tolerance T, counted in 65,536ths of a grey level.
  * Refusals: 10 to 18. */
 uint32_t hejslopi_read_recipe(const uint8_t *bytes, size_t bytes_len, uint64_t result[2]);
 
 /* Filter one plane of width * height samples by a recipe of one stage.
  * Needs: WORK bytes in work, ROWS in rows, SUMS of a box stage in sums, width * height in out.
- * result: T. Every written sample lies within T / 65,536 of the exact result.
+ * result: T. No written sample is more than T / 65,536 away from the exact result.
  * Refusals: 10 to 18, 14 if there is more than one stage, then 3, 5, 6, 20. */
 uint32_t hejslopi_filter_plane(const uint8_t *recipe, size_t recipe_len,
                                size_t width, size_t height,

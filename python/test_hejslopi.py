@@ -73,7 +73,7 @@ class Recipes(unittest.TestCase):
         self.assertEqual(hejslopi.read_recipe(hejslopi.recipe(stages)), (2, 67579))
 
     def test_meaning(self):
-        with self.assertRaisesRegex(hejslopi.Refusal, "refused with 18: position"):
+        with self.assertRaisesRegex(hejslopi.Refusal, "refused with 18: a rank's position"):
             hejslopi.read_recipe(hejslopi.recipe([{"kind": "rank", "across": 0, "down": 0, "position": 2}]))
 
 
