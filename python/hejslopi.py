@@ -92,7 +92,7 @@ def _call(name, *arguments):
 
 
 def read_still(still):
-    """Width, height, channels, and the byte place where the raster starts."""
+    """Width, height, channels, and the index of the raster's first byte."""
     result = (ctypes.c_uint64 * 4)()
     _call("hejslopi_read_still", bytes(still), result)
     return tuple(result)
@@ -183,7 +183,7 @@ def _stage(stage):
 
 
 def recipe(stages):
-    """The recipe's bytes of a list of stages, each a dict.
+    """The bytes of a recipe with these stages, each given as a dict.
 
         {"kind": "binomial", "across": 1, "down": 1, "border": "nearest"}                  radii across and down
         {"kind": "box", "across": 2, "down": 2, "border": {"constant": 20}}                a border value of 20

@@ -19,7 +19,7 @@ mod room;
 pub use refusal::Refusal;
 pub use room::{file_need, needs, Lent, Needs, Room};
 
-/// What a still's header says, and where its raster starts.
+/// What a still's header says, and the index of its raster's first byte.
 #[derive(Clone, Copy, Debug, PartialEq, Eq)]
 pub struct Still {
     pub width: usize,
@@ -28,7 +28,7 @@ pub struct Still {
     pub raster_start: usize,
 }
 
-/// A recipe's stages and its tolerance T, in 65,536ths of a level.
+/// A recipe's stages and its tolerance T, counted in 65,536ths of a grey level.
 #[derive(Clone, Copy, Debug, PartialEq, Eq)]
 pub struct Recipe {
     pub stages: usize,

@@ -8,7 +8,7 @@ pub struct Needs {
     pub sums: usize,
 }
 
-/// Buffers lent to a call. After it has filtered they may hold anything.
+/// Buffers lent to a call. Nothing is promised of them once it has filtered.
 pub struct Lent<'a> {
     pub work: &'a mut [u8],
     pub rows: &'a mut [i32],
@@ -50,8 +50,8 @@ fn sides(width: usize, height: usize) -> Result<(), Refusal> {
     }
 }
 
-/// What filtering a picture of this size by this recipe needs: `2 W H` work bytes, `W (H + 30)` row values, and the largest
-/// `(W + 2r + 1)(H + 2s + 1)` sums of the box stages.
+/// What must be lent to filter a picture of this size by this recipe: `2 W H` bytes of work, `W (H + 30)` row values, and sums
+/// for the box stage with the largest table, `(W + 2r + 1)(H + 2s + 1)` of them.
 pub fn needs(recipe: &[u8], width: usize, height: usize) -> Result<Needs, Refusal> {
     let stages = read_recipe(recipe)?.stages;
     sides(width, height)?;

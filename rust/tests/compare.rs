@@ -293,7 +293,7 @@ fn longest_sides_are_filtered_alike() {
     }
 }
 
-/// Running sums over this frame pass 2^32.
+/// The samples of this frame have a sum above 2^32.
 #[test]
 fn a_bright_large_frame_is_filtered_alike() {
     let mut rng = Rng::new(support::base_seed());

@@ -19,7 +19,7 @@ fn plane(recipe: &[u8], samples: &[u8; 3]) -> (Vec<u8>, u64) {
 
 const BENCH: [u8; 3] = [10, 20, 40];
 
-/// Ratios at offsets -1 0 1 over a divisor, one vertical tap 1/1 at 0, nearest.
+/// A stage of ratios, nearest: three weights over a divisor at -1 0 1 across, and 1/1 alone at 0 down.
 fn ratios(a: [i16; 3], d: u16) -> Vec<u8> {
     let mut recipe = vec![1, 1, 1, 0, 3, 1];
     recipe.extend(d.to_be_bytes());

@@ -1,4 +1,4 @@
-//! The exact chain: a plane of numerators over one common denominator.
+//! The exact chain: planes of whole numerators, each with one denominator for all of them.
 use super::wide::Wide;
 use super::{sample, Stage, Work};
 
@@ -73,7 +73,7 @@ pub fn chain(stages: &[Stage], w: usize, h: usize, plane: &[u8]) -> Exact {
         .fold(start(plane), |exact, stage| after(stage, w, h, exact))
 }
 
-/// 65,536 |N y - x| is at most T N.
+/// 65,536 |N y - x| <= T N.
 pub fn within(tolerance: u64, exact: &Exact, place: usize, y: u8) -> bool {
     let n = exact.denominator;
     let distance = n.times(y as i64).minus(exact.numerators[place]).magnitude();

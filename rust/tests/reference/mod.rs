@@ -52,7 +52,7 @@ fn ceil_div(a: i128, b: i128) -> i128 {
 
 // Outside the frame.
 
-/// The index along an axis of length n that supplies index k, or none where the border value stands.
+/// The index, 0 to n - 1, that stands in for index k of an axis, or none where the border value does.
 pub fn supplying(border: u8, k: i64, n: i64) -> Option<i64> {
     if 0 <= k && k < n {
         return Some(k);
@@ -61,7 +61,7 @@ pub fn supplying(border: u8, k: i64, n: i64) -> Option<i64> {
         0 => None,
         1 => Some(k.clamp(0, n - 1)),
         2 => {
-            // -k becomes k-1, and n-1+k becomes n-k
+            // -1, -2, .. to 0, 1, .., and n, n + 1, .. to n - 1, n - 2, ..
             let reflected = if k < 0 { -k - 1 } else { n - (k - (n - 1)) };
             Some(reflected.clamp(0, n - 1))
         }
@@ -69,7 +69,7 @@ pub fn supplying(border: u8, k: i64, n: i64) -> Option<i64> {
     }
 }
 
-/// The sample at column u and row v, supplied where that is outside.
+/// The sample at column u, row v, by the frame rule where that is outside.
 pub fn sample<T: Clone>(
     plane: &[T],
     w: usize,
@@ -121,7 +121,7 @@ fn gain_at_most_4(axis: &Axis) -> bool {
     magnitude(axis) <= 4 * axis.divisor as i128
 }
 
-/// The gain times 65,536, rounded up.
+/// 65,536 times the gain, rounded up.
 fn gain_units(axis: &Axis) -> i128 {
     ceil_div(65536 * magnitude(axis), axis.divisor as i128)
 }
@@ -264,7 +264,7 @@ impl Fields<'_> {
         Ok(self.take(2)? as u16 as i16 as i64)
     }
 
-    /// A binary32 weight as a whole number over 2^35.
+    /// The numerator over 2^35 of a weight in binary32.
     fn real(&mut self) -> Answer<i64> {
         let bits = self.take(4)?;
         let (negative, exponent, fraction) = (
@@ -391,7 +391,7 @@ fn is_white(b: u8) -> bool {
     matches!(b, b' ' | b'\t' | b'\r' | b'\n')
 }
 
-/// Past the separators at `at`: one or more whitespace bytes or comments.
+/// The place behind the separators at `at`; none where there is no whitespace byte or comment, or a comment without its end.
 fn past_separators(bytes: &[u8], mut at: usize) -> Option<usize> {
     let start = at;
     while let Some(&b) = bytes.get(at) {
