@@ -89,7 +89,7 @@ uint32_t hejslopi_write_still(size_t width, size_t height, size_t channels,
  * Refusals: 10 to 18. */
 uint32_t hejslopi_read_recipe(const uint8_t *bytes, size_t bytes_len, uint64_t result[2]);
 
-/* Filter one plane of width * height samples by a recipe of one stage.
+/* Filter a plane of width * height samples. The recipe must have a single stage.
  * Needs: WORK bytes in work, ROWS in rows, SUMS of a box stage in sums, width * height in out.
  * result: T. No written sample is more than T / 65,536 away from the exact result.
  * Refusals: 10 to 18, 14 if there is more than one stage, then 3, 5, 6, 20. */

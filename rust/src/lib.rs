@@ -119,7 +119,7 @@ pub fn read_recipe(bytes: &[u8]) -> Result<Recipe, Refusal> {
     })
 }
 
-/// Filter a plane by a recipe of one stage into the first `width * height` bytes of `out`, giving T.
+/// Filter a plane, with a single stage, into the first `width * height` bytes of `out`: T.
 /// [`needs`] says how much must be lent.
 pub fn filter_plane_into(
     recipe: &[u8],
@@ -134,7 +134,7 @@ pub fn filter_plane_into(
     Ok(answer(number, result)?[0])
 }
 
-/// Filter a plane by a recipe of one stage.
+/// Filter a plane, with a single stage.
 pub fn filter_plane(
     recipe: &[u8],
     width: usize,

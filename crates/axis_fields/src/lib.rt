@@ -1,4 +1,4 @@
-// The tests of the fields of an axis of weights: sizes, offsets, weights. Each is handed the part where its fields begin.
+// The tests of the fields of an axis of weights: sizes, offsets, weights. Each takes a part that begins with its first field.
 use recipe_bytes::bits_at;
 use recipe_bytes::raised_offset;
 use recipe_bytes::word_at;

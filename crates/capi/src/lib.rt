@@ -38,7 +38,7 @@ pub extern "C" fn hejslopi_read_recipe(bytes: &[u8], result: &mut [u64; 2]) -> u
     told::recipe(recipe::read_recipe(bytes), result)
 }
 
-// Filter a plane by a recipe of one stage: T.
+// Filter a plane, with a single stage: T.
 #[no_mangle]
 pub extern "C" fn hejslopi_filter_plane(
     recipe: &[u8],

@@ -23,7 +23,7 @@ numerator (weighted across down) x = weightedSum (down .taps) (λ j. weightedSum
 numerator (box r s) x = pos (sum (window r s x))
 numerator (rank r s p) x = pos (smallest p (window r s x))
 
--- an exact stage: the border value counts as value·N, for the N before the stage, and each numerator is cut to 0 to 255·N', for the N' after it
+-- an exact stage from N to N', the new denominator: its border value is brought to N, as value·N, and no numerator stays below 0 or above 255·N'
 unfoldable pub exactPlane : ℕ → ℕ → ℕ → Stage → Plane → Plane
 exactPlane W H N t x u v = clamp (255 * denominator N (t .work)) (numerator (t .work) (around (t .border) (t .value * N) W H x u v))
 

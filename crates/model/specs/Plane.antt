@@ -1,4 +1,4 @@
--- Planes, and the samples around one place of a plane.
+-- Planes, and the samples around one place of a plane, by the rule of 'Outside the frame'.
 use Prim.Native.Nat.{ℕ, _+_, _*_}
 use mathlib.Core.List.{List}
 use mathlib.Core.Option.{Option, none, some}

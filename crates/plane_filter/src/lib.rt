@@ -1,4 +1,4 @@
-// Filter a plane by a recipe of one stage.
+// Filter a plane, with a single stage.
 use answers::Filtered;
 use room::Lent;
 ghost use mathlib.Core.Path.{_≡_};

@@ -1,4 +1,4 @@
-// The tests of the fields that stages share: the three header bytes, radii, and a position. Each is handed the part where its fields begin.
+// The tests of the fields that stages share: the three header bytes, radii, and a position. The first takes a stage's bytes, the others what follows the header bytes.
 use recipe_bytes::wide;
 use recipe_bytes::word_at;
 use refusals::Verdict;
