@@ -72,7 +72,7 @@ enum hejslopi_refusal {
 #define HEJSLOPI_FILE_ANY(w, h, channels) ((size_t)17 + (size_t)(w) * (h) * (channels))
 
 /* Read a still, a whole P5 or P6 file.
- * result: width, height, channels (1 or 3), and the index in `bytes` of the raster's first byte.
+ * result: width, height, channels (1 or 3), and at which index of `bytes` the raster begins.
  * Refusals: 1, 2, 3, 4, 5, 6. */
 uint32_t hejslopi_read_still(const uint8_t *bytes, size_t bytes_len, uint64_t result[4]);
 

@@ -92,7 +92,7 @@ def _call(name, *arguments):
 
 
 def read_still(still):
-    """Width, height, channels, and the index of the raster's first byte."""
+    """Width, height, channels, and at which index of the bytes the raster begins."""
     result = (ctypes.c_uint64 * 4)()
     _call("hejslopi_read_still", bytes(still), result)
     return tuple(result)

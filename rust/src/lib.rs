@@ -19,7 +19,7 @@ mod room;
 pub use refusal::Refusal;
 pub use room::{file_need, needs, Lent, Needs, Room};
 
-/// What a still's header says, and the index of its raster's first byte.
+/// What a still's header says, and at which byte its raster begins.
 #[derive(Clone, Copy, Debug, PartialEq, Eq)]
 pub struct Still {
     pub width: usize,

@@ -1,6 +1,6 @@
 // What the five calls answer: a refusal's number, or what was asked for.
 
-// Read a still: its size, and the index of the raster's first byte.
+// Read a still: its size, and at which byte the raster begins.
 pub enum Still {
     Refused(u8),
     Picture {

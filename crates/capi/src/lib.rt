@@ -4,7 +4,7 @@ ghost use Rattle.recipe.specs.Recipe.{recipeOf};
 ghost use Rattle.told.specs.Numbers.{Tells, stillTold, recipeTold};
 ghost use Rattle.capi.specs.Calls.{WritesStill, FiltersPlane, FiltersFile};
 
-// Read a still: width, height, channels, and the index of the raster's first byte.
+// Read a still: width, height, channels, and at which byte the raster begins.
 #[no_mangle]
 pub extern "C" fn hejslopi_read_still(bytes: &[u8], result: &mut [u64; 4]) -> u32
     ensures { λ r. ⌜ Tells (stillTold (stillOf (now (bytes .entry)))) (now (result .entry)) (now (result .exit)) r ⌝ }

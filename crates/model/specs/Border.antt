@@ -6,7 +6,7 @@ use lib.Dec.{ltb}
 use lib.IntN.{ℤ, pos, negsuc, _-ℤ_}
 use Rattle.integers.specs.Divide.{modulo}
 
--- the four borders, in the order of their numbers 0 to 3
+-- the four borders, with the numbers 0 to 3 in this order
 pub data Border : Type 0 where
   constant nearest mirror wrap : Border
 

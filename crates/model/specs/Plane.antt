@@ -18,7 +18,7 @@ planeOf W samples u v = getD samples (v * W + u) 0
 abbrev pub Neighbourhood : Type 0
 Neighbourhood = ℤ → ℤ → ℕ
 
--- the sample at the two supplied indices, or the border value where at least one of them is none
+-- the sample at the two supplied indices, or the border value where one of them, or each, is none
 unfoldable pub pick : ℕ → Plane → Option ℕ → Option ℕ → ℕ
 pick value f none v = value
 pick value f (some u) none = value

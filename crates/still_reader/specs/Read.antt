@@ -34,6 +34,6 @@ magicTest bytes = (eqb (getD bytes 0 0) 80 && leb 1 (channelsOf (getD bytes 1 0)
 unfoldable pub pictureOf : ℕ → Header → ℕ → Still
 pictureOf c h total = tested Refused (headerTests c h (total - (2 + h .size))) (Picture (h .width) (h .height) c (2 + h .size))
 
--- the answer of `read_still`: width, height, channels and the index of the raster's first byte, or the first refusal
+-- the answer of `read_still`: width, height, channels and at which byte, from 0, the raster begins, or the first refusal
 unfoldable pub stillOf : List ℕ → Still
 stillOf bytes = tested Refused (magicTest bytes ∷ []) (pictureOf (channelsOf (getD bytes 1 0)) (header (drop 2 bytes)) (length bytes))

@@ -26,7 +26,7 @@ pub record Light (a : Axis) : Type 0 where
   pub near : (i : ℕ) → i < a .len → getD (a .offsets) i 0 ≤ 30
   pub size : heldSize (a .weights) (a .len) ≤ 262175
 
--- the row value of a weighted sum of samples: floor((sum + 512) / 1,024)
+-- the row value, from the sum of weighted samples: floor((sum + 512) / 1,024)
 unfoldable pub rowOf : ℤ → ℤ
 rowOf sum = floorDiv (sum +ℤ pos 512) 1024
 
@@ -34,7 +34,7 @@ rowOf sum = floorDiv (sum +ℤ pos 512) 1024
 unfoldable pub heldRow : Axis → (ℕ → ℕ → ℕ) → ℕ → ℕ → ℤ
 heldRow a p u y = rowOf (axisSum a (λ o. pos (p (u + o) y)))
 
--- the level of a weighted sum of row values, at least 0 and at most 255: floor((sum + 2^21) / 2^22)
+-- the level, from the sum of weighted row values, at least 0 and at most 255: floor((sum + 2^21) / 2^22)
 unfoldable pub levelOf : ℤ → ℕ
 levelOf sum = clamp 255 (floorDiv (sum +ℤ pos (2 ^ 21)) (2 ^ 22))
 

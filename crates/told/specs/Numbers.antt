@@ -33,7 +33,7 @@ pub record Tells (told : Told) (array array′ : List ℕ) (r : ℕ) : Type 0 wh
   pub number : r ≡ returned told
   pub numbers : array′ ≡ arrayAfter told array
 
--- of `read_still`: width, height, channels, and the index of the raster's first byte
+-- of `read_still`: width, height, channels, and at which byte the raster begins
 abbrev pub stillTold : Still → Told
 stillTold (Still.Refused n) = refusal n
 stillTold (Still.Picture W H c start) = values (W ∷ H ∷ c ∷ start ∷ [])
