@@ -15,7 +15,7 @@ use Rattle.recipe_bytes.specs.Bytes.{at, word, signed8, bits, there, field}
 unfoldable pub isCount : ℕ → Bool
 isCount n = leb 1 n && leb n 31
 
--- the sizes: the two numbers of taps and, of ratios only, the D across and the D down, two bytes each. How many bytes they take, a D from byte k on, and the tests
+-- the sizes: both numbers of taps and, for ratios, a D across and a D down of two bytes each, above 0. How many bytes; the D at byte k, 2^35 for reals; the tests
 unfoldable pub sizesLength : Bool → ℕ
 sizesLength real = cond real 2 6
 

@@ -24,7 +24,7 @@ rasterShort = 5
 abbrev pub rasterLong : ℕ
 rasterLong = 6
 
--- 10 to 14, of a recipe: how many stages · an end before a field is complete · more after its last stage · kinds and borders · sizes: how many taps, a D, a radius
+-- 10 to 14, of a recipe: how many stages · it ends too early · it goes on too long · an unknown kind or border, or a border value out of place · how many taps, a D, a radius
 abbrev pub stageCount : ℕ
 stageCount = 10
 

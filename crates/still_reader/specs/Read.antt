@@ -30,7 +30,7 @@ headerTests c h rest =
 unfoldable pub magicTest : List ℕ → Test
 magicTest bytes = (eqb (getD bytes 0 0) 80 && leb 1 (channelsOf (getD bytes 1 0)), Refusal.magic)
 
--- the answer for c channels and a header after the two magic bytes; `total` bytes in all: nothing may follow the raster, a second picture neither
+-- the answer for c channels and a header after the two magic bytes; `total` bytes in all: nothing may follow the raster, not even a second picture
 unfoldable pub pictureOf : ℕ → Header → ℕ → Still
 pictureOf c h total = tested Refused (headerTests c h (total - (2 + h .size))) (Picture (h .width) (h .height) c (2 + h .size))
 
