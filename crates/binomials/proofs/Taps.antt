@@ -28,7 +28,7 @@ unfolding magnitude total sum sumℤ tabulate tap
 magnitude-total o g zero = refl
 magnitude-total o g (suc n) = rw (magnitude-total (λ k. o (suc k)) (λ k. g (suc k)) n)
 
-binomial-magnitude : (r : ℕ) → magnitude ((binomial r) .taps) ≡ 2 ^ (2 * r)
+pub binomial-magnitude : (r : ℕ) → magnitude ((binomial r) .taps) ≡ 2 ^ (2 * r)
 unfolding binomial kernel
 binomial-magnitude r = ap posPart (sym (magnitude-total (λ k. pos k -ℤ pos r) (λ k. choose (2 * r) k) (2 * r + 1)) ∙ binomial-total r)
 

@@ -83,6 +83,8 @@ pub record FileAccepted (recipe still : List ℕ) (l : Lent) (W H c T n : ℕ) :
   pub output : fileSize W H c ≤ l .out
   pub T-is : tolerance (recipeStages recipe) ≡ T
   pub size-is : fileSize W H c ≡ n
+  pub start : ℕ
+  pub read : stillOf still ≡ Still.Picture W H c start
   pub samples : samplesOf (stillOf still) still ≡ drop (length still - W * H * c) still
 
 -- a still that was read decides what an accepted answer says
@@ -108,6 +110,8 @@ still-accepted recipe still l {W} {H} {c} {T} {n} (Still.Picture W′ H′ c′ 
       output = r .1;
       T-is = et;
       size-is = en;
+      start = start;
+      read = e;
       samples = rw e (ap (λ (k : ℕ). drop k still) (starts start (W′ * H′ * c′) (length still) (s .ends)));
     })
   where
@@ -119,7 +123,3 @@ unfolding fileAnswer
 file-accepted recipe still l {W} {H} {c} {T} {n} e =
     let p = passed File.Refused (recipeTests recipe) (stillAnswer (recipeStages recipe) l (stillOf still)) (File.Picture W H c T n) (λ n f. let z : _≡_ {A = ℕ} 0 1 = cc in omega arith) e in
     still-accepted recipe still l (stillOf still) refl (passed-all _ (p .0)) (p .1)
-
--- an output of the length that was answered fits what is lent
-pub output-fits : (recipe still : List ℕ) (l : Lent) {a : File} {W H c T n : ℕ} → a ≡ fileAnswer recipe still l → a ≡ File.Picture W H c T n → n ≤ l .out
-output-fits recipe still l e f = let p = file-accepted recipe still l (sym e ∙ f) in omega (arith, p .output, p .size-is)

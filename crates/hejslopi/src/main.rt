@@ -1,14 +1,19 @@
 // Filters the file `still` by the file `recipe` into the file `out`, and prints `ok W H channels T`, or `no N` for a refusal.
 use answers::File;
 use disk_tests::Found;
+ghost use Rattle.program_filter.specs.Program.{Saves};
 
-// Lends what document 01 says. `out` is opened only once the call has accepted, and the line waits until it is written.
+// What a disk does with bytes is beyond any contract: so the caller has to show which bytes they are, and their name.
+fn save(recipe: &[u8], still: &[u8], name: &[u8], bytes: &[u8]) -> bool
+    requires { ⌜ Saves (now recipe) (now still) (now name) (now bytes) ⌝ }
+{
+    disk::save(name, bytes)
+}
+
+// `out` is opened only once the call has accepted, and the line waits until it is written.
 fn filter(recipe: &[u8], still: &[u8]) {
-    let mut work = [0u8; 32768];
-    let mut rows = [0i32; 16384];
-    let mut sums = [0u32; 16384];
     let mut out = [0u8; 65536];
-    match file_filter::filter_file(recipe, still, &mut work, &mut rows, &mut sums, &mut out) {
+    match program_filter::filter_still(recipe, still, &mut out) {
         File::Refused(n) => printing::refusal(n),
         File::Picture {
             width,
@@ -17,7 +22,7 @@ fn filter(recipe: &[u8], still: &[u8]) {
             tolerance,
             len,
         } => {
-            if disk::save(b"out", &out[..len]) {
+            if save(recipe, still, b"out", &out[..len]) {
                 printing::picture(width, height, channels);
                 printing::number(tolerance);
             } else {

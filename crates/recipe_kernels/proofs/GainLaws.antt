@@ -36,12 +36,14 @@ module _ {offsets values : List ℕ} {n D : ℕ} where
     near = h .offsets-near;
   }
 
-module _ (real : Bool) (b : List ℕ) (bytes : (i : ℕ) → at b i < 256) (e : verdict (weightedTests real b) ≡ Passed) where
-  gain-within : (axis : ℕ) → axis ≤ 1 → magnitude (kernelOn real axis b .taps) ≤ 4 * kernelOn real axis b .divisor
+module _ (real : Bool) (b : List ℕ) (e : verdict (weightedTests real b) ≡ Passed) where
+  -- no gain passes 4
+  pub gain-within : (axis : ℕ) → axis ≤ 1 → magnitude (kernelOn real axis b .taps) ≤ 4 * kernelOn real axis b .divisor
   unfolding weightedTests gainTests gainTest
   gain-within zero l = leb-true _ _ (all-append (tapTests real b) (gainTests real b) (all-pass (weightedTests real b) e) .1 .0)
   gain-within (suc zero) l = leb-true _ _ (all-append (tapTests real b) (gainTests real b) (all-pass (weightedTests real b) e) .1 .1 .0)
   gain-within (suc (suc k)) l = absurd (omega (arith, l))
 
+module _ (real : Bool) (b : List ℕ) (bytes : (i : ℕ) → at b i < 256) (e : verdict (weightedTests real b) ≡ Passed) where
   pub axis-limits : (axis : ℕ) → axis ≤ 1 → {offsets values : List ℕ} {n D : ℕ} → Holds offsets values n D (kernelOn real axis b) → Kept values n D → Limits D offsets values n
-  axis-limits axis l h k = limits h k (axis-rising real b bytes (taps-part real b e) axis l) (gain-within axis l)
+  axis-limits axis l h k = limits h k (axis-rising real b bytes (taps-part real b e) axis l) (gain-within real b e axis l)

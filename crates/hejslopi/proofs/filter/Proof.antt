@@ -1,27 +1,14 @@
--- `hejslopi::filter` is safe: an accepted output fits what was lent. Assumes nothing.
+-- `hejslopi::filter` is safe, and saves what it may: an accepted output fits what was lent, and its front is the filtered still. Assumes nothing.
 use native.Mathlib.Omega.{arith}
 use mathlib.Core.Path.{sym}
 use lib.Seq.{length-take-le}
-use denote.Ref.{now}
-use Rattle.filter_answers.proofs.FileAccepted.{output-fits}
+use Rattle.program_filter.proofs.Saved.{length-fits, front-saves}
 use borrow.Author.Needs.{needs}
 use Rattle.hejslopi.proofs.filter.Statement.{statement}
 use Rattle.hejslopi.proofs.filter.Tie as tie
 
-slice-aggregate-filter-file : tie.Need-slice-aggregate-filter-file
-slice-aggregate-filter-file c = search needs
-
-slice-aggregate-filter-file-2 : tie.Need-slice-aggregate-filter-file-2
-slice-aggregate-filter-file-2 c = search needs
-
-slice-aggregate-filter-file-3 : tie.Need-slice-aggregate-filter-file-3
-slice-aggregate-filter-file-3 c = search needs
-
-slice-aggregate-filter-file-4 : tie.Need-slice-aggregate-filter-file-4
-slice-aggregate-filter-file-4 c = search needs
-
-filter-file-requires : tie.Need-filter-file-requires
-filter-file-requires c κs = search needs
+filter-still-requires : tie.Need-filter-still-requires
+filter-still-requires c κs = search needs
 
 enum-known-n : tie.Need-enum-known-n
 enum-known-n c = search needs
@@ -36,17 +23,13 @@ slice-aggregate-save : tie.Need-slice-aggregate-save
 slice-aggregate-save c = search needs
 
 array-share-prefix-out : tie.Need-array-share-prefix-out
-array-share-prefix-out c =
-    let a = c .before .before .before .before .before .before .before .before .before .before .before .before .before .before .before .args in
-    omega (arith, output-fits (now (a .recipe)) (now (a .still)) _ (c .before .before .before .before .before .before .before .before .filter-file .ensures .answered) (c .before .before .width .given .1))
+array-share-prefix-out c = omega (arith, length-fits (c .before .before .before .before .filter-still .ensures) (c .before .before .width .given .1))
 
 slice-aggregate-save-2 : tie.Need-slice-aggregate-save-2
-slice-aggregate-save-2 c =
-    let a = c .before .before .before .before .before .before .before .before .before .before .before .before .before .before .before .before .args in
-    sym (length-take-le _ _ (omega (arith, output-fits (now (a .recipe)) (now (a .still)) _ (c .before .before .before .before .before .before .before .before .before .filter-file .ensures .answered) (c .before .before .before .width .given .1))))
+slice-aggregate-save-2 c = sym (length-take-le _ _ (omega (arith, length-fits (c .before .before .before .before .before .filter-still .ensures) (c .before .before .before .width .given .1))))
 
 save-requires : tie.Need-save-requires
-save-requires c κs = search needs
+save-requires c κs = front-saves (c .before .before .before .before .before .filter-still .ensures) (c .before .before .before .width .given .1)
 
 picture-requires : tie.Need-picture-requires
 picture-requires c κs = search needs
@@ -70,11 +53,7 @@ pub filter-spec : {M : Type 1} → statement M
 filter-spec =
     tie.close
     (tie.spec
-    slice-aggregate-filter-file
-    slice-aggregate-filter-file-2
-    slice-aggregate-filter-file-3
-    slice-aggregate-filter-file-4
-    filter-file-requires
+    filter-still-requires
     enum-known-n
     refusal-requires
     enum-known-width

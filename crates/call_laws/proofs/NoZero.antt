@@ -1,0 +1,234 @@
+-- NO REFUSAL'S NUMBER IS 0, of none of the five calls: so a C caller who gets 0 has the answer. Assumes nothing.
+use Prim.Native.Nat.{ℕ, zero, suc, _+_, _≤_}
+use native.Mathlib.Omega.{arith}
+use mathlib.Core.Path.{_≡_, refl}
+use mathlib.Core.Bool.{Bool, true, false, cond, _&&_}
+use mathlib.Core.List.{List, [], _∷_, _++_}
+use lib.Dec.{leb, eqb}
+use lib.IntN.{ℤ, pos, _+ℤ_}
+use lib.ListN.{drop, length}
+use borrow.Author.Tests.{leb-true}
+use Rattle.refusals.specs.Refusal.{Test, tested}
+use Rattle.answers.specs.declared.Still.{Still}
+use Rattle.answers.specs.declared.Still.the-variants as Still
+use Rattle.answers.specs.declared.Written.{Written}
+use Rattle.answers.specs.declared.Written.the-variants as Written
+use Rattle.answers.specs.declared.Recipe.{Recipe}
+use Rattle.answers.specs.declared.Recipe.the-variants as Recipe
+use Rattle.answers.specs.declared.Filtered.{Filtered}
+use Rattle.answers.specs.declared.Filtered.the-variants as Filtered
+use Rattle.answers.specs.declared.File.{File}
+use Rattle.answers.specs.declared.File.the-variants as File
+use Rattle.model.specs.Stage.{Stage}
+use Rattle.recipe_bytes.specs.Bytes.{at, signed8, there}
+use Rattle.stage_fields.specs.StageFields.{headTests, radiusTests, positionTests}
+use Rattle.axis_fields.specs.AxisFields.{sizesLength, sizeTests, offsetTests, axisTests, realTests, weightTests}
+use Rattle.tap_fields.specs.TapFields.{tapTests}
+use Rattle.gain_tests.specs.Gain.{gainTest}
+use Rattle.recipe_kernels.specs.Kernels.{gainTests, weightedTests}
+use Rattle.recipe_stages.specs.StageBytes.{workTests, stageTests, stageLength}
+use Rattle.recipe.specs.Recipe.{stagesTests, recipeTests, recipeStages, recipeOf}
+use Rattle.header_reader.specs.Header.{Header}
+use Rattle.still_reader.specs.Read.{headerTests, magicTest, pictureOf, stillOf}
+use Rattle.still_writer.specs.Write.{writeTests, writtenOf}
+use Rattle.room.specs.declared.Lent.{Lent}
+use Rattle.room.specs.Room.{lent, roomTests}
+use Rattle.filter_answers.specs.PlaneAnswer.{planeTests, planeAnswer}
+use Rattle.filter_answers.specs.FileAnswer.{fileSize, stillAnswer, fileAnswer}
+use Rattle.told.specs.Numbers.{Told, refusal, values, Tells, stillTold, writtenTold, recipeTold, planeTold, fileTold}
+use Rattle.capi.specs.Calls.{WritesStill, FiltersPlane, FiltersFile}
+use Rattle.call_laws.specs.Success.{Success}
+
+-- ---- tests whose numbers are not 0
+
+abbrev numbered : List Test → Bool
+numbered [] = true
+numbered (t ∷ ts) = leb 1 (t .1) && numbered ts
+
+and-both : (s t : Bool) → s ≡ true → t ≡ true → (s && t) ≡ true
+and-both s t p q = rw (p, q)
+
+and-parts : (s t : Bool) → (s && t) ≡ true → (s ≡ true) × (t ≡ true)
+and-parts true t k = (refl, k)
+and-parts false t k = let z : _≡_ {A = ℕ} 0 1 = cc in absurd (omega arith)
+
+numbered-append : (xs ys : List Test) → numbered xs ≡ true → numbered ys ≡ true → numbered (xs ++ ys) ≡ true
+numbered-append [] ys p q = q
+numbered-append (t ∷ xs) ys p q =
+    let h = and-parts (leb 1 (t .1)) (numbered xs) p in
+    and-both (leb 1 (t .1)) (numbered (xs ++ ys)) (h .0) (numbered-append xs ys (h .1) q)
+
+numbered-cond : (s : Bool) (xs ys : List Test) → numbered xs ≡ true → numbered ys ≡ true → numbered (cond s xs ys) ≡ true
+numbered-cond true xs ys p q = p
+numbered-cond false xs ys p q = q
+
+-- the refusal of such tests, or of the answer after them
+module _ {A : Type 0} (refuse : ℕ → A) (same : (m n : ℕ) → refuse m ≡ refuse n → m ≡ n) where
+  refused-number : (ts : List Test) (answer : A) (n : ℕ) → numbered ts ≡ true → (answer ≡ refuse n → 1 ≤ n) → tested refuse ts answer ≡ refuse n → 1 ≤ n
+  refused-number [] answer n p q e = q e
+  refused-number ((true, m) ∷ ts) answer n p q e = refused-number ts answer n (and-parts (leb 1 m) (numbered ts) p .1) q e
+  refused-number ((false, m) ∷ ts) answer n p q e = rw (same m n e) at (leb-true 1 m (and-parts (leb 1 m) (numbered ts) p .0))
+
+-- ---- the tests of a recipe
+
+offsets-numbered : (least : ℤ) (k : ℕ) (b : List ℕ) → numbered (offsetTests least k b) ≡ true
+unfolding offsetTests there
+offsets-numbered least zero b = refl
+offsets-numbered least (suc k) b = offsets-numbered (signed8 (at b 0) +ℤ pos 1) k (drop 1 b)
+
+axis-numbered : (k : ℕ) (b : List ℕ) → numbered (axisTests k b) ≡ true
+unfolding axisTests
+axis-numbered k b = offsets-numbered _ k b
+
+reals-numbered : (k : ℕ) (b : List ℕ) → numbered (realTests k b) ≡ true
+unfolding realTests there
+reals-numbered zero b = refl
+reals-numbered (suc k) b = reals-numbered k (drop 4 b)
+
+sizes-numbered : (real : Bool) (b : List ℕ) → numbered (sizeTests real b) ≡ true
+unfolding sizeTests there
+sizes-numbered true b = refl
+sizes-numbered false b = refl
+
+weights-numbered : (real : Bool) (k : ℕ) (b : List ℕ) → numbered (weightTests real k b) ≡ true
+unfolding weightTests there
+weights-numbered true k b = reals-numbered k b
+weights-numbered false k b = refl
+
+taps-numbered : (real : Bool) (b : List ℕ) → numbered (tapTests real b) ≡ true
+unfolding tapTests
+taps-numbered real b =
+    numbered-append (sizeTests real b) _ (sizes-numbered real b)
+    (numbered-append (axisTests (at b 0) (drop (sizesLength real) b)) _ (axis-numbered _ _)
+    (numbered-append (axisTests (at b 1) (drop (sizesLength real + at b 0) b)) _ (axis-numbered _ _) (weights-numbered real _ _)))
+
+weighted-numbered : (real : Bool) (b : List ℕ) → numbered (weightedTests real b) ≡ true
+unfolding weightedTests gainTests gainTest
+weighted-numbered real b = numbered-append (tapTests real b) (gainTests real b) (taps-numbered real b) refl
+
+work-numbered : (kind : ℕ) (b : List ℕ) → numbered (workTests kind b) ≡ true
+unfolding workTests radiusTests positionTests there
+work-numbered kind b =
+    numbered-cond (eqb kind 1) (weightedTests false b) _ (weighted-numbered false b)
+    (numbered-cond (eqb kind 2) (weightedTests true b) _ (weighted-numbered true b)
+    (numbered-cond (eqb kind 5) (radiusTests b ++ positionTests b) (radiusTests b) refl refl))
+
+stage-numbered : (b : List ℕ) → numbered (stageTests b) ≡ true
+unfolding stageTests headTests there
+stage-numbered b = numbered-append (headTests b) (workTests (at b 0) (drop 3 b)) refl (work-numbered (at b 0) (drop 3 b))
+
+stages-numbered : (k : ℕ) (b : List ℕ) → numbered (stagesTests k b) ≡ true
+unfolding stagesTests
+stages-numbered zero b = refl
+stages-numbered (suc k) b = numbered-append (stageTests b) (stagesTests k (drop (stageLength b) b)) (stage-numbered b) (stages-numbered k (drop (stageLength b) b))
+
+recipe-numbered : (b : List ℕ) → numbered (recipeTests b) ≡ true
+unfolding recipeTests there
+recipe-numbered b = stages-numbered (at b 0) (drop 1 b)
+
+-- ---- the five calls
+
+picture-number : (c : ℕ) (h : Header) (total n : ℕ) → pictureOf c h total ≡ Still.Refused n → 1 ≤ n
+unfolding pictureOf headerTests
+picture-number c h total n e = refused-number Still.Refused (λ m k f. cc) (headerTests c h _) (Still.Picture _ _ _ _) n refl other e
+  where
+    other : {w h c s : ℕ} → Still.Picture w h c s ≡ Still.Refused n → 1 ≤ n
+    other f = let z : _≡_ {A = ℕ} 0 1 = cc in absurd (omega arith)
+
+pub read-still-number : (bytes : List ℕ) (n : ℕ) → stillOf bytes ≡ Still.Refused n → 1 ≤ n
+unfolding stillOf magicTest
+read-still-number bytes n e = refused-number Still.Refused (λ m k f. cc) (magicTest bytes ∷ []) (pictureOf _ _ _) n refl (picture-number _ _ _ n) e
+
+pub write-still-number : (W H c raster room n : ℕ) → writtenOf W H c raster room ≡ Written.Refused n → 1 ≤ n
+unfolding writtenOf writeTests
+write-still-number W H c raster room n e = refused-number Written.Refused (λ m k f. cc) (writeTests W H c raster room) (Written.Length _) n refl other e
+  where
+    other : {l : ℕ} → Written.Length l ≡ Written.Refused n → 1 ≤ n
+    other f = let z : _≡_ {A = ℕ} 0 1 = cc in absurd (omega arith)
+
+pub read-recipe-number : (recipe : List ℕ) (n : ℕ) → recipeOf recipe ≡ Recipe.Refused n → 1 ≤ n
+unfolding recipeOf
+read-recipe-number recipe n e = refused-number Recipe.Refused (λ m k f. cc) (recipeTests recipe) (Recipe.Stages _ _) n (recipe-numbered recipe) other e
+  where
+    other : {S T : ℕ} → Recipe.Stages S T ≡ Recipe.Refused n → 1 ≤ n
+    other f = let z : _≡_ {A = ℕ} 0 1 = cc in absurd (omega arith)
+
+pub filter-plane-number : (recipe : List ℕ) (W H samples : ℕ) (l : Lent) (n : ℕ) → planeAnswer recipe W H samples l ≡ Filtered.Refused n → 1 ≤ n
+unfolding planeAnswer planeTests roomTests
+filter-plane-number recipe W H samples l n e =
+    refused-number Filtered.Refused (λ m k f. cc) (recipeTests recipe ++ planeTests recipe W H samples l) (Filtered.Tolerance _) n (numbered-append (recipeTests recipe) (planeTests recipe W H samples l) (recipe-numbered recipe) refl) other e
+  where
+    other : {T : ℕ} → Filtered.Tolerance T ≡ Filtered.Refused n → 1 ≤ n
+    other f = let z : _≡_ {A = ℕ} 0 1 = cc in absurd (omega arith)
+
+still-answer-number : (ts : List Stage) (l : Lent) (s : Still) (n : ℕ) → ((k : ℕ) → s ≡ Still.Refused k → 1 ≤ k) → stillAnswer ts l s ≡ File.Refused n → 1 ≤ n
+unfolding roomTests
+still-answer-number ts l (Still.Refused k) n h e = let d : k ≡ n = cc in rw d at (h k refl)
+still-answer-number ts l (Still.Picture W H c start) n h e = refused-number File.Refused (λ m k f. cc) (roomTests W H ts (fileSize W H c) l) (File.Picture _ _ _ _ _) n refl other e
+  where
+    other : {W H c T s : ℕ} → File.Picture W H c T s ≡ File.Refused n → 1 ≤ n
+    other f = let z : _≡_ {A = ℕ} 0 1 = cc in absurd (omega arith)
+
+pub filter-file-number : (recipe still : List ℕ) (l : Lent) (n : ℕ) → fileAnswer recipe still l ≡ File.Refused n → 1 ≤ n
+unfolding fileAnswer
+filter-file-number recipe still l n e =
+    refused-number File.Refused (λ m k f. cc) (recipeTests recipe) (stillAnswer (recipeStages recipe) l (stillOf still)) n (recipe-numbered recipe) (still-answer-number (recipeStages recipe) l (stillOf still) n (read-still-number still)) e
+
+-- ---- the same for a C caller: 0 is told of success alone
+
+abbrev NoZero : Told → Type 0
+NoZero (refusal n) = 1 ≤ n
+NoZero (values ns) = Unit {0}
+
+succeeds : (t : Told) {xs ys : List ℕ} {r : ℕ} → NoZero t → Tells t xs ys r → r ≡ 0 → Success t ys
+succeeds (refusal n) h t z = absurd (omega (arith, h, t .number, z))
+succeeds (values ns) h t z = record { answer = ns; is = refl; array-is = t .numbers }
+
+still-told : (a : Still) → ((n : ℕ) → a ≡ Still.Refused n → 1 ≤ n) → NoZero (stillTold a)
+still-told (Still.Refused n) h = h n refl
+still-told (Still.Picture W H c start) h = tt
+
+written-told : (a : Written) → ((n : ℕ) → a ≡ Written.Refused n → 1 ≤ n) → NoZero (writtenTold a)
+written-told (Written.Refused n) h = h n refl
+written-told (Written.Length n) h = tt
+
+recipe-told : (a : Recipe) → ((n : ℕ) → a ≡ Recipe.Refused n → 1 ≤ n) → NoZero (recipeTold a)
+recipe-told (Recipe.Refused n) h = h n refl
+recipe-told (Recipe.Stages S T) h = tt
+
+plane-told : (a : Filtered) → ((n : ℕ) → a ≡ Filtered.Refused n → 1 ≤ n) → NoZero (planeTold a)
+plane-told (Filtered.Refused n) h = h n refl
+plane-told (Filtered.Tolerance T) h = tt
+
+file-told : (a : File) → ((n : ℕ) → a ≡ File.Refused n → 1 ≤ n) → NoZero (fileTold a)
+file-told (File.Refused n) h = h n refl
+file-told (File.Picture W H c T n) h = tt
+
+-- each contract of the C interface, where the function returns 0
+module _ {array array′ : List ℕ} {r : ℕ} (returns-0 : r ≡ 0) where
+  pub read-still-success : (bytes : List ℕ) → Tells (stillTold (stillOf bytes)) array array′ r → Success (stillTold (stillOf bytes)) array′
+  read-still-success bytes t = succeeds (stillTold (stillOf bytes)) (still-told (stillOf bytes) (read-still-number bytes)) t returns-0
+
+  pub write-still-success : (W H c : ℕ) (raster out out′ : List ℕ) → WritesStill W H c raster out out′ array array′ r
+      → Success (writtenTold (writtenOf W H c (length raster) (length out))) array′
+  write-still-success W H c raster out out′ w =
+      let a = writtenOf W H c (length raster) (length out) in
+      succeeds (writtenTold a) (written-told a (write-still-number W H c (length raster) (length out))) (w .told) returns-0
+
+  pub read-recipe-success : (recipe : List ℕ) → Tells (recipeTold (recipeOf recipe)) array array′ r → Success (recipeTold (recipeOf recipe)) array′
+  read-recipe-success recipe t = succeeds (recipeTold (recipeOf recipe)) (recipe-told (recipeOf recipe) (read-recipe-number recipe)) t returns-0
+
+  module _ (recipe work work′ : List ℕ) (rows rows′ : List ℤ) (sums sums′ out out′ : List ℕ) where
+    pub filter-plane-success : (W H : ℕ) (plane : List ℕ) → FiltersPlane recipe W H plane work work′ rows rows′ sums sums′ out out′ array array′ r
+        → Success (planeTold (planeAnswer recipe W H (length plane) (lent (length work) (length rows) (length sums) (length out)))) array′
+    filter-plane-success W H plane f =
+        let lengths = lent (length work) (length rows) (length sums) (length out) in
+        let a = planeAnswer recipe W H (length plane) lengths in
+        succeeds (planeTold a) (plane-told a (filter-plane-number recipe W H (length plane) lengths)) (f .told) returns-0
+
+    pub filter-file-success : (still : List ℕ) → FiltersFile recipe still work work′ rows rows′ sums sums′ out out′ array array′ r
+        → Success (fileTold (fileAnswer recipe still (lent (length work) (length rows) (length sums) (length out)))) array′
+    filter-file-success still f =
+        let lengths = lent (length work) (length rows) (length sums) (length out) in
+        let a = fileAnswer recipe still lengths in
+        succeeds (fileTold a) (file-told a (filter-file-number recipe still lengths)) (f .told) returns-0

@@ -1,0 +1,1 @@
+// What the calls' contracts come to, for whoever calls them: no code.

@@ -1,0 +1,2 @@
+-- The file call in the program, definitions only: what is lent to it, and what of it is saved.
+pub mod Program
