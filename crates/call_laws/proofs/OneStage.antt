@@ -1,8 +1,7 @@
 -- T OF ONE STAGE OF WEIGHTS, as every call that answers T gives it: at most 98,060, and at most 49,094 if neither gain passes 1. Assumes nothing.
-use Prim.Native.Nat.{ℕ, zero, suc, _+_, _*_, _≤_, _<_}
-use native.Mathlib.Nat.{one-le-pow}
+use Prim.Native.Nat.{ℕ, zero, suc, _*_, _≤_}
 use native.Mathlib.Omega.{arith}
-use mathlib.Core.Path.{_≡_, refl, sym, ap, _∙_}
+use mathlib.Core.Path.{_≡_, sym, ap, _∙_}
 use mathlib.Core.Bool.{Bool, true, false}
 use mathlib.Core.List.{List, [], _∷_}
 use lib.ListN.{length, drop}
@@ -29,8 +28,8 @@ use Rattle.tap_fields.specs.TapFields.{tapTests}
 use Rattle.taps.specs.TapBytes.{kernelAt}
 use Rattle.recipe_kernels.specs.Kernels.{kernelOn, gainTests, weightedTests}
 use Rattle.recipe_kernels.proofs.GainLaws.{gain-within}
-use Rattle.recipe_stages.specs.StageBytes.{workTests, workOf, stageTests, stageOf, kernelFor, borderOf}
-use Rattle.recipe_stages.proofs.ByKind.{kernels-kind, weighted-kind, radius-on, stage-parts}
+use Rattle.recipe_stages.specs.StageBytes.{workTests, stageTests, stageOf, kernelFor, borderOf}
+use Rattle.recipe_stages.proofs.ByKind.{kernels-kind, radius-on, stage-parts}
 use Rattle.recipe.specs.Recipe.{stagesTests, stagesOf, recipeTests, recipeStages, recipeOf}
 use Rattle.recipe.proofs.Accepted.{accepted}
 use Rattle.room.specs.declared.Lent.{Lent}

@@ -49,7 +49,7 @@ pub still-filters : {recipe still work work′ : List ℕ} {rows rows′ : List 
 unfolding programAnswer
 still-filters {recipe} {still} {out = out} {out′ = out′} {answer = answer} f w r s o =
     let e : answer ≡ fileAnswer recipe still programLent = f .answered ∙ rw (w, r, s, o) in
-    record { answered = e; saved = saved-front recipe still out out′ programLent answer e (f .output) }
+    record { answered = e; saved = saved-front recipe still out out′ programLent answer e (f .output); within = f .within }
 
 -- where the program has a picture, its length fits the output, and that front may be saved
 module _ {recipe still out : List ℕ} {answer : File} (f : FiltersStill recipe still out answer) {W H c T n : ℕ} (p : answer ≡ Picture W H c T n) where

@@ -13,6 +13,7 @@ use Rattle.room.specs.declared.Lent.{Lent}
 use Rattle.room.specs.Room.{lent}
 use Rattle.filter_answers.specs.FileAnswer.{samplesOf, fileAnswer}
 use Rattle.raster_filter.specs.FilteredRaster.{filteredRaster}
+use Rattle.file_filter.specs.FiltersFile.{FileWithin}
 
 -- the program's buffers: 32,768 work bytes, 16,384 row values, 16,384 sums, 65,536 output bytes
 abbrev pub programLent : Lent
@@ -31,10 +32,11 @@ abbrev pub savedBytes : File → List Stage → List ℕ → List ℕ
 savedBytes (Refused n) ts raster = []
 savedBytes (Picture W H c T n) ts raster = headerBytes W H c ++ filteredRaster W H c ts raster
 
--- what `filter_still` ensures of its answer and of the output's front
+-- what `filter_still` ensures of its answer, of the output's front, and of each sample in it: demand 3
 pub record FiltersStill (recipe still out : List ℕ) (answer : File) : Type 0 where
   pub answered : answer ≡ programAnswer recipe still
   pub saved : take (savedLength answer) out ≡ savedBytes answer (recipeStages recipe) (samplesOf (stillOf still) still)
+  pub within : FileWithin answer (recipeStages recipe) (samplesOf (stillOf still) still) out
 
 -- the name of the file that is written: out
 abbrev pub outName : List ℕ
