@@ -41,14 +41,15 @@ saved-front recipe still out out′ l (Picture W H c T n) e o =
     let raster = samplesOf (stillOf still) still in
     front-two (headerBytes W H c) (filteredRaster W H c ts raster) _ out′ n (omega (arith, file-accepted recipe still l (sym e) .size-is, filtered-length W H c ts raster)) o
 
--- the file call, lent what the program lends
-pub still-filters : {recipe still work work′ : List ℕ} {rows rows′ : List ℤ} {sums sums′ out out′ : List ℕ} {answer : File}
+-- the file call, lent what the program lends: buffers of these lengths, and these lengths are the program's
+pub still-filters : {recipe still work work′ : List ℕ} {rows rows′ : List ℤ} {sums sums′ out out′ : List ℕ} {answer : File} {w r s o : ℕ}
     → FiltersFile recipe still work work′ rows rows′ sums sums′ out out′ answer
-    → length work ≡ 32768 → length rows ≡ 16384 → length sums ≡ 16384 → length out ≡ 65536
+    → w ≡ length work → r ≡ length rows → s ≡ length sums → o ≡ length out
+    → lent w r s o ≡ programLent
     → FiltersStill recipe still out′ answer
 unfolding programAnswer
-still-filters {recipe} {still} {out = out} {out′ = out′} {answer = answer} f w r s o =
-    let e : answer ≡ fileAnswer recipe still programLent = f .answered ∙ rw (w, r, s, o) in
+still-filters {recipe} {still} {out = out} {out′ = out′} {answer = answer} f ew er es eo l =
+    let e : answer ≡ fileAnswer recipe still programLent = f .answered ∙ rw (← ew, ← er, ← es, ← eo, l) in
     record { answered = e; saved = saved-front recipe still out out′ programLent answer e (f .output); within = f .within }
 
 -- where the program has a picture, its length fits the output, and that front may be saved

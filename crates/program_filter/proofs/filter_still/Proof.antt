@@ -1,5 +1,5 @@
 -- `program_filter::filter_still` meets its contract: the file call's, for the lengths of these arrays. Assumes nothing.
-use mathlib.Core.Path.{sym}
+use mathlib.Core.Path.{refl}
 use Rattle.program_filter.proofs.Saved.{still-filters}
 use borrow.Author.Needs.{needs}
 use Rattle.program_filter.proofs.filter_still.Statement.{statement}
@@ -19,11 +19,7 @@ filter-file-requires c κs = search needs
 
 returns : tie.Need-returns
 returns c =
-    still-filters (c .before .before .before .filter-file .ensures)
-    (sym (slice-aggregate-filter-file (c .before .before .before .before .before .before .before)))
-    (sym (slice-aggregate-filter-file-2 (c .before .before .before .before .before .before)))
-    (sym (slice-aggregate-filter-file-3 (c .before .before .before .before .before)))
-    (search needs)
+    still-filters (c .before .before .before .filter-file .ensures) (slice-aggregate-filter-file (c .before .before .before .before .before .before .before)) (slice-aggregate-filter-file-2 (c .before .before .before .before .before .before)) (slice-aggregate-filter-file-3 (c .before .before .before .before .before)) (search needs) refl
 
 pub filter-still-spec : {M : Type 1} → statement M
 filter-still-spec =
