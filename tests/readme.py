@@ -1,0 +1,182 @@
+"""README.md's examples, taken from README.md itself: each is run as it is printed there and has to do what is said there."""
+import os
+import re
+import shlex
+import subprocess
+import sys
+
+import folders
+import program
+from scripts import written
+from tally import Words
+
+
+# ---- what is printed there
+
+
+def page():
+    with open("README.md", encoding="utf-8") as file:
+        return file.read()
+
+
+def section(heading):
+    """What stands under a heading, up to the next one."""
+    return found(r"(?ms)^#+ %s\n(.*?)(?=^#|\Z)" % re.escape(heading), page(), "heading '%s'" % heading)
+
+
+def found(pattern, text, what):
+    """The first group of a pattern. README.md without it is a failure of its own."""
+    match = re.search(pattern, text)
+    if not match:
+        raise LookupError("README.md has no %s" % what)
+    return match.group(1)
+
+
+def printed(text, beginning):
+    """The indented lines of the first example that begins so, without their indent. Blank lines stand inside an example, other words between two."""
+    examples = re.findall(r"(?m)^(?:    .*\n(?:\n+(?=    ))?)+", text)
+    for example in examples:
+        lines = [line[4:] for line in example.splitlines()]
+        if lines[0].startswith(beginning):
+            return lines
+    raise LookupError("README.md has no example that begins with %s" % beginning)
+
+
+def command_of(lines, beginning):
+    """The line of an example that begins so, without the remark behind it, and what the remark says is printed."""
+    for line in lines:
+        if line.startswith(beginning):
+            command, _, remark = line.partition("  #")
+            return command.strip(), remark.replace("prints:", "").strip()
+    raise LookupError("README.md has no line that begins with %s" % beginning)
+
+
+# ---- running it
+
+
+def says(command, where, **changed):
+    """What a line for the shell prints and ends with."""
+    done = subprocess.run(["sh", "-c", command], cwd=where, env=dict(os.environ, **changed), stdin=subprocess.DEVNULL, stdout=subprocess.PIPE,
+                          stderr=subprocess.STDOUT, universal_newlines=True, errors="backslashreplace")
+    return done.returncode, done.stdout
+
+
+def stand_in(room):
+    """Makes a folder look like the top of the repository to the examples, so that they leave their files there and not in the tree."""
+    for name in ("include", "python", "target"):
+        os.symlink(os.path.abspath(name), os.path.join(room, name))
+    path = os.path.join(room, "filter")
+    written(path, ('#!/bin/sh\nexec "%s" "$@"\n' % os.path.abspath("filter")).encode())
+    os.chmod(path, 0o755)
+
+
+def from_shell(tally, room):
+    """The two lines for the shell: what is printed, and the bytes of `out`."""
+    text = page()
+    lines = printed(text, "printf ")
+    said = found(r"prints `(ok [\d ]+)`", text, "line that ./filter prints")
+    samples = bytes.fromhex(found(r"the bytes ((?:[0-9A-F]{2} ?)+)", text, "bytes of out"))
+    tally.equal("the example for the shell", says("\n".join(lines), room), (0, said + "\n"))
+    still, out = (folders.lies_at(os.path.join(room, name)).bytes for name in ("still", "out"))
+    tally.equal("the example for the shell: out", out, (still or b"")[:-len(samples)] + samples)
+
+
+def from_c(tally, room):
+    """The program in C, by the command printed below it."""
+    text = section("From C")
+    lines = printed(text, "#include")
+    command, _ = command_of(lines, "cc ")
+    said = found(r"prints\s+`([^`]+)`", text, "line that the program in C prints")
+    written(os.path.join(room, "example.c"), "\n".join(lines[:lines.index(command)]).encode())
+    tally.equal("the example in C", says(command, room), (0, said + "\n"))
+
+
+def from_rust(tally, room):
+    """The lines in Rust, in a package that depends on this one. They compare by themselves, so a run without an error is all."""
+    lines = printed(section("From Rust"), "let still")
+    if not any(line.startswith("assert_eq!") for line in lines):
+        raise LookupError("README.md's lines in Rust compare nothing")
+    package = os.path.join(room, "package")
+    os.makedirs(os.path.join(package, "src"))
+    manifest = '[package]\nname = "readme"\nversion = "0.1.0"\nedition = "2021"\n\n[dependencies]\nhejslopi = { path = "%s" }\n'
+    written(os.path.join(package, "Cargo.toml"), (manifest % os.path.abspath("rust")).encode())
+    body = "fn main() -> Result<(), hejslopi::Refusal> {\n%s\nOk(())\n}\n" % "\n".join(lines)
+    written(os.path.join(package, "src", "main.rs"), body.encode())
+    libraries = os.path.abspath(os.path.join("target", "staticlib"))
+    answer = says("cargo run --quiet --offline", package, CARGO_TARGET_DIR=os.path.join(package, "target"), HEJSLOPI_LIB_DIR=libraries)
+    tally.equal("the example in Rust", answer, (0, ""))
+
+
+def rust_program(tally, room):
+    """The package's own program, which the printed command builds with a library that the package makes by itself."""
+    command, _ = command_of(printed(section("From Rust"), "cargo "), "cargo run")
+    for word in ("STILL", "RECIPE", "OUT"):
+        command = command.replace(" " + word, " " + shlex.quote(os.path.join(room, word)))
+    written(os.path.join(room, "STILL"), program.STILL)
+    written(os.path.join(room, "RECIPE"), program.RECIPE)
+    status, text = says(command.replace("cargo run", "cargo run --quiet"), ".")
+    tally.equal("the Rust package's program", (status, text), (0, program.LINE + "\n"))
+    tally.equal("the Rust package's program: OUT", folders.lies_at(os.path.join(room, "OUT")).bytes, program.OUT)
+
+
+def from_python(tally, room):
+    """The lines in Python: the remark at the last says what becomes of it."""
+    lines = printed(section("From Python"), "import hejslopi")
+    samples = found(r"# \.\. ((?:[0-9A-F]{2} ?)+), and \d+$", lines[-1], "bytes of the picture in Python")
+    tolerance = found(r"and (\d+)$", lines[-1], "T of the picture in Python")
+    body = "\n".join(lines + ["print(picture[-3:].hex(' ').upper(), T)"])
+    written(os.path.join(room, "example.py"), body.encode())
+    answer = says("%s example.py" % shlex.quote(sys.executable), room, PYTHONPATH="python")
+    tally.equal("the example in Python", answer, (0, "%s %s\n" % (samples, tolerance)))
+
+
+def python_commands(tally, room):
+    """The two commands of the Python module, on the description that is printed above them."""
+    lines = printed(section("From Python"), "[{")
+    first = next(k for k, line in enumerate(lines) if line.startswith("python3 "))
+    written(os.path.join(room, "description.json"), "\n".join(lines[:first]).encode())
+    written(os.path.join(room, "still.pgm"), program.STILL)
+    for beginning in ("python3 python/hejslopi.py recipe", "python3 python/hejslopi.py filter"):
+        command, said = command_of(lines, beginning)
+        tally.equal(beginning, says(command, room), (0, said + "\n"))
+
+
+# ---- recipes byte by byte
+
+
+def listed(lines):
+    """The bytes of a recipe that is printed with words beside them."""
+    return bytes.fromhex("".join(found(r"^((?:[0-9A-F]{2} +)+)", line, "bytes in '%s'" % line) for line in lines))
+
+
+def filtered(room, still, recipe):
+    """What the program says of a still and a recipe, and what it writes."""
+    written(os.path.join(room, "still"), still)
+    written(os.path.join(room, "recipe"), recipe)
+    said = program.run(program.to_try(), room)
+    return said, folders.lies_at(os.path.join(room, "out")).bytes
+
+
+def recipes(tally, room):
+    """The recipes that are printed byte by byte, with the T that is given for them or with samples that are worked by hand from their words."""
+    text = section("Recipes")
+    whole, first = (found(pattern, text, "T of two stages").replace(",", "") for pattern in (r"Its T is ([\d,]+)", r"\(([\d,]+) after the first stage"))
+    two = listed(printed(text, "02 "))
+    tally.equal("the recipe of two stages", filtered(room, program.STILL, two)[0], "ok 3 1 1 %s\n" % whole)
+    tally.equal("the first of two stages", filtered(room, program.STILL, b"\x01" + two[1:6])[0], "ok 3 1 1 %s\n" % first)
+    tally.equal("the example's recipe", listed(printed(text[text.index("The example above"):], "01 ")), program.RECIPE)
+    # Mirrored, 8 16 40 has the neighbours 8 16, 8 40 and 16 40: 8 + 8/4, 16 + 32/4, 40 + 24/4.
+    ratios = listed(printed(text[text.index("Ratios with"):], "01 "))
+    said, out = filtered(room, program.STILL[:-3] + bytes([8, 16, 40]), ratios)
+    tally.equal("the recipe of ratios", (Words(said[:8]), out and out[-3:]), ("ok 3 1 1", bytes([10, 24, 46])))
+
+
+def try_readme(tally):
+    """Each example in a folder of its own, so that none finds what another has made. One that is not there is a failure and stops no other."""
+    for example in (from_shell, recipes, from_c, from_python, python_commands, from_rust, rust_program):
+        with folders.fresh_folder() as room:
+            stand_in(room)
+            try:
+                example(tally, room)
+            except (LookupError, ValueError) as wrong:
+                tally.fails(example.__name__, Words(wrong), Words("an example"))
