@@ -18,7 +18,7 @@ use Rattle.room.specs.Room.{lent}
 use Rattle.filter_answers.specs.FileAnswer.{fileSize, samplesOf, fileAnswer}
 use Rattle.filter_answers.proofs.FileAccepted.{file-accepted}
 use Rattle.raster_filter.specs.FilteredRaster.{filteredRaster}
-use Rattle.file_filter.specs.FiltersFile.{fileOutput, FiltersFile}
+use Rattle.file_filter.specs.FiltersFile.{refused, fileOutput, FiltersFile}
 use Rattle.program_filter.specs.Program.{programLent, programAnswer, savedLength, savedBytes, FiltersStill, outName, Saves}
 
 -- two lists in front of a third
@@ -72,5 +72,6 @@ module _ {recipe still out : List ℕ} {answer : File} (f : FiltersStill recipe 
   pub front-saves : Saves recipe still outName (take n out)
   front-saves = record {
     named = refl;
+    accepted = ap refused (sym (f .answered) ∙ p);
     filtered = front ∙ ap (λ (a : File). savedBytes a (recipeStages recipe) (samplesOf (stillOf still) still)) (sym p ∙ f .answered);
   }

@@ -1,6 +1,7 @@
 -- What the program lends, answers and saves.
 use Prim.Native.Nat.{ℕ}
 use mathlib.Core.Path.{_≡_}
+use mathlib.Core.Bool.{false}
 use mathlib.Core.List.{List, [], _∷_, _++_}
 use lib.ListN.{take}
 use Rattle.model.specs.Stage.{Stage}
@@ -13,7 +14,7 @@ use Rattle.room.specs.declared.Lent.{Lent}
 use Rattle.room.specs.Room.{lent}
 use Rattle.filter_answers.specs.FileAnswer.{samplesOf, fileAnswer}
 use Rattle.raster_filter.specs.FilteredRaster.{filteredRaster}
-use Rattle.file_filter.specs.FiltersFile.{FileWithin}
+use Rattle.file_filter.specs.FiltersFile.{refused, FileWithin}
 
 -- the program's buffers: 32,768 work bytes, 16,384 row values, 16,384 sums, 65,536 output bytes
 abbrev pub programLent : Lent
@@ -42,7 +43,8 @@ pub record FiltersStill (recipe still out : List ℕ) (answer : File) : Type 0 w
 abbrev pub outName : List ℕ
 outName = 111 ∷ 117 ∷ 116 ∷ []
 
--- what may be saved for a still and a recipe, and under which name
+-- what may be saved for a still and a recipe, and under which name: nothing where the answer is a refusal
 pub record Saves (recipe still name bytes : List ℕ) : Type 0 where
   pub named : name ≡ outName
+  pub accepted : refused (programAnswer recipe still) ≡ false
   pub filtered : bytes ≡ savedBytes (programAnswer recipe still) (recipeStages recipe) (samplesOf (stillOf still) still)
