@@ -15,7 +15,7 @@ tapOf offsets numerators i = tap (offsetOf (getD offsets i 0)) (numeratorOf (get
 unfoldable pub kernelOf : ℕ → List ℕ → List ℕ → ℕ → Model.Kernel
 kernelOf divisor offsets numerators n = kernel divisor (tabulate (tapOf offsets numerators) n)
 
--- what a recipe keeps to: a divisor of at most 2^35, at most 31 taps, a gain of at most 4, offsets that rise, held as 0 to 30
+-- what a recipe keeps to: a divisor of 1 to 2^35, at most 31 taps, a gain of at most 4, offsets that rise, held as 0 to 30
 pub record Limits (divisor : ℕ) (offsets numerators : List ℕ) (n : ℕ) : Type 0 where
   pub some : 0 < divisor
   pub few : divisor ≤ 2 ^ 35

@@ -17,7 +17,7 @@ denominator N (weighted across down) = N * (across .divisor * down .divisor)
 denominator N (box r s) = N * area r s
 denominator N (rank r s p) = N
 
--- the exact result as a numerator over the new N: the sum of a·a'·x over the taps of both kernels, offsets added; the sum of the window; its p-th smallest
+-- the exact result before it is clamped, as a numerator over the new N: the sum of a·a'·x over the taps of both kernels, offsets added; the sum of the window; its p-th smallest
 unfoldable pub numerator : Work → Neighbourhood → ℤ
 numerator (weighted across down) x = weightedSum (down .taps) (λ j. weightedSum (across .taps) (λ i. pos (x i j)))
 numerator (box r s) x = pos (sum (window r s x))

@@ -104,7 +104,7 @@ unfoldable pub above : Kernel
 above = kernel 1 (tap (minus 1) (pos 1) ∷ [])
 
 -- Worked by hand:
--- mirror: -1 -2 -3 become 0 1 2, and -4 -5 become 3 4, outside too, of which 2 is closest; 3 4 5 become 2 1 0, and 6 7 become -1 -2, of which 0 is closest;
+-- mirror: -1 -2 -3 become 0 1 2, and -4 -5 become 3 4, outside too, to which 2 is closest; 3 4 5 become 2 1 0, and 6 7 become -1 -2, to which 0 is closest;
 -- wrap: -5 is 1 modulo 3, and 7 is 1;
 -- box, nearest: the corner (0, 0) has its own row and column twice, (4·10 + 2·20 + 2·30 + 40) / 9 = 20, and 210/9 = 23.3, 240/9 = 26.7, 270/9 = 30 follow;
 -- box, constant 100: each window has the whole plane and five samples of 100, 600/9 = 66.7; box, wrap: the other row and column twice, 10 + 2·20 + 2·30 + 4·40 = 270;
@@ -115,7 +115,7 @@ above = kernel 1 (tap (minus 1) (pos 1) ∷ [])
 -- 1/128 across, 1 down: 63 gives 31.5 64ths, rounded up to 32, and 32/64 is rounded up to 1; down before across, 63/128 would be rounded once, to 0;
 -- 4 over 1: 800 is clamped to 255, and four such stages carry T past the cut;
 -- weights that make half a unit: 16.5 is wanted as 17, -16.5 as -16. Binomial r 2: 1 4 6 4 1 in 16ths;
--- box, rank, then 1 1 2 over 3 across and 1 1 over 3 down: g1 is 87,381.3 and g2 43,690.7, rounded up; 29,127.3 + 851.1 + 680.8, each rounded up, + 32,768;
+-- box, rank, then 1 1 2 over 3 across and 1 1 over 3 down: g1 is 87,381.3 and g2 43,690.7, rounded up; 29,127.6 + 851.3 + 680.04, each rounded up, + 32,768;
 -- two stages: box gives 13 23 33, of whose windows 13 13 23, 13 23 33, 23 33 33 the third is taken;
 -- exact: 50/4 = 12.5; 40/3; the middle one; 10/2 and 30/2; -20/2, -30/2 and -10/2 are clamped, and so is 800; box twice, where the border value 100 enters as 300 thirds.
 unfoldable pub details : List Example

@@ -13,7 +13,7 @@ use Rattle.answers.specs.declared.Recipe.the-variants.{Refused, Stages}
 use Rattle.recipe_bytes.specs.Bytes.{at, field}
 use Rattle.recipe_stages.specs.StageBytes.{stageTests, stageLength, stageOf}
 
--- k stages one after the other: their tests, the last of all that no byte is left over, and the stages
+-- k stages one after the other: the tests of each, and at the end that no byte is left over; and the stages themselves
 unfoldable pub stagesTests : ℕ → List ℕ → List Test
 stagesTests zero b = (eqb (length b) 0, Refusal.trailing) ∷ []
 stagesTests (suc k) b = stageTests b ++ stagesTests k (drop (stageLength b) b)

@@ -5,7 +5,7 @@ use mathlib.Core.List.{List, [], _∷_}
 use Rattle.refusals.specs.declared.Verdict.{Verdict}
 use Rattle.refusals.specs.declared.Verdict.the-variants.{Refused, Passed}
 
--- 1 to 6, of a still: no P5 or P6 · a header that lacks a part · a side beyond its limits · a maximum other than 255 · too few samples · too many
+-- 1 to 6, of a still: no P5 or P6 · a header of another form, or cut · a side beyond its limits · a maximum other than 255 · too few samples · too many
 abbrev pub magic : ℕ
 magic = 1
 
@@ -24,7 +24,7 @@ rasterShort = 5
 abbrev pub rasterLong : ℕ
 rasterLong = 6
 
--- 10 to 14, of a recipe: how many stages · it ends too early · it goes on too long · an unknown kind or border, or a border value out of place · how many taps, a D, a radius
+-- 10 to 14, of a recipe: how many stages · it ends too early · it goes on too long · an unknown kind or border, or a border value out of place · how many taps, a D, a radius, and for `filter_plane` an S other than 1
 abbrev pub stageCount : ℕ
 stageCount = 10
 

@@ -1,4 +1,4 @@
--- The sides of a box stage's table: the frame, extended by the window's radii on both ends, and one.
+-- The sides of a box stage's table: the frame with the window's radii added on both ends, plus one.
 use Prim.Native.Nat.{ℕ, _+_, _*_}
 use Rattle.stage_values.specs.declared.Window.{Window}
 
