@@ -1,5 +1,7 @@
 // Files on disk, read and written.
 use disk_tests::Loaded;
+ghost use mathlib.Core.Path.{_≡_};
+ghost use Rattle.disk_tests.specs.Disk.{outName};
 
 // A read may stop short of the file's end, and one that fails is no end: a folder can be opened too.
 fn read_all(fd: i32, bytes: &mut [u8]) -> Loaded {
@@ -29,8 +31,11 @@ pub fn load(path: &[u8], bytes: &mut [u8]) -> Loaded {
 }
 
 // Whether a file now holds these bytes and no others: it was opened, written whole and closed.
-pub fn save(path: &[u8], bytes: &[u8]) -> bool {
-    let fd = os::open_overwrite(path);
+// What happens on a disk is beyond any contract; that nothing goes there under another name is required.
+fn put(name: &[u8], bytes: &[u8]) -> bool
+    requires { ⌜ now name ≡ outName ⌝ }
+{
+    let fd = os::open_overwrite(name);
     if fd < 0 {
         return false;
     }
@@ -40,4 +45,9 @@ pub fn save(path: &[u8], bytes: &[u8]) -> bool {
         return false;
     }
     written
+}
+
+// Whether the file `out` now holds these bytes and no others.
+pub fn save(bytes: &[u8]) -> bool {
+    put(b"out", bytes)
 }

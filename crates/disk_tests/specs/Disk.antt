@@ -32,3 +32,7 @@ diskTests still recipe =
 -- the lengths of still and recipe, or a refusal
 unfoldable pub found : Loaded → Loaded → Found
 found still recipe = tested Refused (diskTests still recipe) (Lengths (size still) (size recipe))
+
+-- the name of the file that is written: out
+abbrev pub outName : List ℕ
+outName = 111 ∷ 117 ∷ 116 ∷ []

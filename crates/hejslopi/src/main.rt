@@ -3,11 +3,11 @@ use answers::File;
 use disk_tests::Found;
 ghost use Rattle.program_filter.specs.Program.{Saves};
 
-// What a disk does with bytes is beyond any contract: so the caller has to show which bytes they are, and their name.
-fn save(recipe: &[u8], still: &[u8], name: &[u8], bytes: &[u8]) -> bool
-    requires { ⌜ Saves (now recipe) (now still) (now name) (now bytes) ⌝ }
+// What a disk does with bytes is beyond any contract: so the caller has to show which bytes they are.
+fn save(recipe: &[u8], still: &[u8], bytes: &[u8]) -> bool
+    requires { ⌜ Saves (now recipe) (now still) (now bytes) ⌝ }
 {
-    disk::save(name, bytes)
+    disk::save(bytes)
 }
 
 // `out` is opened only once the call has accepted, and the line waits until it is written.
@@ -22,7 +22,7 @@ fn filter(recipe: &[u8], still: &[u8]) {
             tolerance,
             len,
         } => {
-            if save(recipe, still, b"out", &out[..len]) {
+            if save(recipe, still, &out[..len]) {
                 printing::picture(width, height, channels);
                 printing::number(tolerance);
             } else {

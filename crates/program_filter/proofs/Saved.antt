@@ -19,7 +19,7 @@ use Rattle.filter_answers.specs.FileAnswer.{fileSize, samplesOf, fileAnswer}
 use Rattle.filter_answers.proofs.FileAccepted.{file-accepted}
 use Rattle.raster_filter.specs.FilteredRaster.{filteredRaster}
 use Rattle.file_filter.specs.FiltersFile.{refused, fileOutput, FiltersFile}
-use Rattle.program_filter.specs.Program.{programLent, programAnswer, savedLength, savedBytes, FiltersStill, outName, Saves}
+use Rattle.program_filter.specs.Program.{programLent, programAnswer, savedLength, savedBytes, FiltersStill, Saves}
 
 -- two lists in front of a third
 pub front-two : (head middle tail whole : List ℕ) (n : ℕ) → n ≡ length head + length middle → whole ≡ head ++ (middle ++ tail) → take n whole ≡ head ++ middle
@@ -69,9 +69,8 @@ module _ {recipe still out : List ℕ} {answer : File} (f : FiltersStill recipe 
         file-accepted recipe still programLent (sym (f .answered) ∙ p) .size-is,
       )
 
-  pub front-saves : Saves recipe still outName (take n out)
+  pub front-saves : Saves recipe still (take n out)
   front-saves = record {
-    named = refl;
     accepted = ap refused (sym (f .answered) ∙ p);
     filtered = front ∙ ap (λ (a : File). savedBytes a (recipeStages recipe) (samplesOf (stillOf still) still)) (sym p ∙ f .answered);
   }

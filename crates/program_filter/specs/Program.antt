@@ -2,7 +2,7 @@
 use Prim.Native.Nat.{ℕ}
 use mathlib.Core.Path.{_≡_}
 use mathlib.Core.Bool.{false}
-use mathlib.Core.List.{List, [], _∷_, _++_}
+use mathlib.Core.List.{List, [], _++_}
 use lib.ListN.{take}
 use Rattle.model.specs.Stage.{Stage}
 use Rattle.answers.specs.declared.File.{File}
@@ -39,12 +39,7 @@ pub record FiltersStill (recipe still out : List ℕ) (answer : File) : Type 0 w
   pub saved : take (savedLength answer) out ≡ savedBytes answer (recipeStages recipe) (samplesOf (stillOf still) still)
   pub within : FileWithin answer (recipeStages recipe) (samplesOf (stillOf still) still) out
 
--- the name of the file that is written: out
-abbrev pub outName : List ℕ
-outName = 111 ∷ 117 ∷ 116 ∷ []
-
--- what may be saved for a still and a recipe, and under which name: nothing where the answer is a refusal
-pub record Saves (recipe still name bytes : List ℕ) : Type 0 where
-  pub named : name ≡ outName
+-- what may be saved for a still and a recipe: nothing where the answer is a refusal
+pub record Saves (recipe still bytes : List ℕ) : Type 0 where
   pub accepted : refused (programAnswer recipe still) ≡ false
   pub filtered : bytes ≡ savedBytes (programAnswer recipe still) (recipeStages recipe) (samplesOf (stillOf still) still)

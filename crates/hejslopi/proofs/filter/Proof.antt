@@ -19,17 +19,14 @@ refusal-requires c κs = search needs
 enum-known-width : tie.Need-enum-known-width
 enum-known-width c = search needs
 
-slice-aggregate-save : tie.Need-slice-aggregate-save
-slice-aggregate-save c = search needs
-
 array-share-prefix-out : tie.Need-array-share-prefix-out
-array-share-prefix-out c = omega (arith, length-fits (c .before .before .before .before .filter-still .ensures) (c .before .before .width .given .1))
+array-share-prefix-out c = omega (arith, length-fits (c .before .before .before .filter-still .ensures) (c .before .width .given .1))
 
-slice-aggregate-save-2 : tie.Need-slice-aggregate-save-2
-slice-aggregate-save-2 c = sym (length-take-le _ _ (omega (arith, length-fits (c .before .before .before .before .before .filter-still .ensures) (c .before .before .before .width .given .1))))
+slice-aggregate-save : tie.Need-slice-aggregate-save
+slice-aggregate-save c = sym (length-take-le _ _ (omega (arith, length-fits (c .before .before .before .before .filter-still .ensures) (c .before .before .width .given .1))))
 
 save-requires : tie.Need-save-requires
-save-requires c κs = front-saves (c .before .before .before .before .before .filter-still .ensures) (c .before .before .before .width .given .1)
+save-requires c κs = front-saves (c .before .before .before .before .filter-still .ensures) (c .before .before .width .given .1)
 
 picture-requires : tie.Need-picture-requires
 picture-requires c κs = search needs
@@ -57,9 +54,8 @@ filter-spec =
     enum-known-n
     refusal-requires
     enum-known-width
-    slice-aggregate-save
     array-share-prefix-out
-    slice-aggregate-save-2
+    slice-aggregate-save
     save-requires
     picture-requires
     number-requires
