@@ -2,7 +2,7 @@
 use Prim.Native.Nat.{ℕ, zero, suc, _+_, _≤_}
 use native.Mathlib.Omega.{arith}
 use mathlib.Core.Path.{_≡_, refl}
-use mathlib.Core.Bool.{Bool, true, false, cond, _&&_}
+use mathlib.Core.Bool.{Bool, true, false, cond, _&&_, and-eq-true-iff}
 use mathlib.Core.List.{List, [], _∷_, _++_}
 use lib.Dec.{leb, eqb}
 use lib.IntN.{ℤ, pos, _+ℤ_}
@@ -45,18 +45,11 @@ abbrev numbered : List Test → Bool
 numbered [] = true
 numbered (t ∷ ts) = leb 1 (t .1) && numbered ts
 
-and-both : (s t : Bool) → s ≡ true → t ≡ true → (s && t) ≡ true
-and-both s t p q = rw (p, q)
-
-and-parts : (s t : Bool) → (s && t) ≡ true → (s ≡ true) × (t ≡ true)
-and-parts true t k = (refl, k)
-and-parts false t k = let z : _≡_ {A = ℕ} 0 1 = cc in absurd (omega arith)
-
 numbered-append : (xs ys : List Test) → numbered xs ≡ true → numbered ys ≡ true → numbered (xs ++ ys) ≡ true
 numbered-append [] ys p q = q
 numbered-append (t ∷ xs) ys p q =
-    let h = and-parts (leb 1 (t .1)) (numbered xs) p in
-    and-both (leb 1 (t .1)) (numbered (xs ++ ys)) (h .0) (numbered-append xs ys (h .1) q)
+    let h = and-eq-true-iff (leb 1 (t .1)) (numbered xs) .0 p in
+    and-eq-true-iff (leb 1 (t .1)) (numbered (xs ++ ys)) .1 (h .0, numbered-append xs ys (h .1) q)
 
 numbered-cond : (s : Bool) (xs ys : List Test) → numbered xs ≡ true → numbered ys ≡ true → numbered (cond s xs ys) ≡ true
 numbered-cond true xs ys p q = p
@@ -66,8 +59,8 @@ numbered-cond false xs ys p q = q
 module _ {A : Type 0} (refuse : ℕ → A) (same : (m n : ℕ) → refuse m ≡ refuse n → m ≡ n) where
   refused-number : (ts : List Test) (answer : A) (n : ℕ) → numbered ts ≡ true → (answer ≡ refuse n → 1 ≤ n) → tested refuse ts answer ≡ refuse n → 1 ≤ n
   refused-number [] answer n p q e = q e
-  refused-number ((true, m) ∷ ts) answer n p q e = refused-number ts answer n (and-parts (leb 1 m) (numbered ts) p .1) q e
-  refused-number ((false, m) ∷ ts) answer n p q e = rw (same m n e) at (leb-true 1 m (and-parts (leb 1 m) (numbered ts) p .0))
+  refused-number ((true, m) ∷ ts) answer n p q e = refused-number ts answer n (and-eq-true-iff (leb 1 m) (numbered ts) .0 p .1) q e
+  refused-number ((false, m) ∷ ts) answer n p q e = rw (same m n e) at (leb-true 1 m (and-eq-true-iff (leb 1 m) (numbered ts) .0 p .0))
 
 -- ---- the tests of a recipe
 
