@@ -1,4 +1,4 @@
-/* Hejslopi: Netpbm stills (P5, P6) filtered by a recipe. The interface for C.
+/* Hejslopi: Netpbm stills (P5, P6) filtered by a recipe. The interface for C (from C99) and C++ (from C++11).
  *
  * Link with target/staticlib/libcapi.a, which `rt staticlib capi` proves and builds (x86-64 Linux). It needs memcpy and
  * memset and nothing else of the C library.
@@ -30,37 +30,65 @@
 extern "C" {
 #endif
 
+/* What a call returns. hejslopi_meaning says each in words. */
 enum hejslopi_refusal {
     HEJSLOPI_DONE = 0,
 
     /* the still */
-    HEJSLOPI_MAGIC = 1,        /* the file does not begin with P5 or P6 */
-    HEJSLOPI_HEADER = 2,       /* the header lacks a separator, a number or the whitespace byte at its end */
-    HEJSLOPI_SIDE = 3,         /* the width or the height is not from 1 to 8,192 */
-    HEJSLOPI_MAXIMUM = 4,      /* the header's maximum is not 255 */
-    HEJSLOPI_RASTER_SHORT = 5, /* there are fewer samples than the picture's size asks for */
-    HEJSLOPI_RASTER_LONG = 6,  /* there are more samples than the picture's size asks for */
+    HEJSLOPI_MAGIC = 1,
+    HEJSLOPI_HEADER = 2,
+    HEJSLOPI_SIDE = 3,
+    HEJSLOPI_MAXIMUM = 4,
+    HEJSLOPI_RASTER_SHORT = 5,
+    HEJSLOPI_RASTER_LONG = 6,
 
     /* the recipe */
-    HEJSLOPI_STAGE_COUNT = 10, /* the number of stages is 0 or over 8 */
-    HEJSLOPI_CUT = 11,         /* the recipe ends before a field is complete */
-    HEJSLOPI_TRAILING = 12,    /* the recipe goes on after its last stage */
-    HEJSLOPI_KIND = 13,        /* a kind is not 1 to 5, a border is over 3, or a border other than constant has a value that is not 0 */
-    HEJSLOPI_COUNT = 14,       /* an axis has 0 or over 31 taps, a divisor is 0, or a radius is over 15; for
-                                  hejslopi_filter_plane also a recipe of several stages */
-    HEJSLOPI_OFFSET = 15,      /* an offset is not -15 to 15, or not above the one before it */
-    HEJSLOPI_REAL_WEIGHT = 16, /* the size of a real weight is neither 0 nor from 2^-12 to 4 */
-    HEJSLOPI_GAIN = 17,        /* an axis has a gain above 4 */
-    HEJSLOPI_POSITION = 18,    /* a rank's position is 0 or above the number of samples in its window */
+    HEJSLOPI_STAGE_COUNT = 10,
+    HEJSLOPI_CUT = 11,
+    HEJSLOPI_TRAILING = 12,
+    HEJSLOPI_KIND = 13,
+    HEJSLOPI_COUNT = 14,
+    HEJSLOPI_OFFSET = 15,
+    HEJSLOPI_REAL_WEIGHT = 16,
+    HEJSLOPI_GAIN = 17,
+    HEJSLOPI_POSITION = 18,
 
     /* the call */
-    HEJSLOPI_CHANNELS = 19,    /* the number of channels is neither 1 nor 3 */
-    HEJSLOPI_ROOM = 20,        /* a lent buffer has less room than the call needs */
+    HEJSLOPI_CHANNELS = 19,
+    HEJSLOPI_ROOM = 20,
 
-    /* the program's files: only the program that reads files gives these, no call does */
-    HEJSLOPI_FILE_LONG = 21,   /* the still is longer than 65,536 bytes, or the recipe longer than 4,096 */
-    HEJSLOPI_FILE_UNREAD = 22  /* a file cannot be opened, read or written */
+    /* the program's files: only programs that read files give these, no call does */
+    HEJSLOPI_FILE_LONG = 21,
+    HEJSLOPI_FILE_UNREAD = 22
 };
+
+/* What a returned number means: "done" for 0, "unknown" for one that is no refusal's. */
+static inline const char *hejslopi_meaning(uint32_t number)
+{
+    switch (number) {
+    case HEJSLOPI_DONE: return "done";
+    case HEJSLOPI_MAGIC: return "the file does not begin with P5 or P6";
+    case HEJSLOPI_HEADER: return "the header lacks a separator, a number or the whitespace byte at its end";
+    case HEJSLOPI_SIDE: return "the width or the height is not from 1 to 8,192";
+    case HEJSLOPI_MAXIMUM: return "the header's maximum is not 255";
+    case HEJSLOPI_RASTER_SHORT: return "there are fewer samples than the picture's size asks for";
+    case HEJSLOPI_RASTER_LONG: return "there are more samples than the picture's size asks for";
+    case HEJSLOPI_STAGE_COUNT: return "the number of stages is 0 or over 8";
+    case HEJSLOPI_CUT: return "the recipe ends before a field is complete";
+    case HEJSLOPI_TRAILING: return "the recipe goes on after its last stage";
+    case HEJSLOPI_KIND: return "a kind is not 1 to 5, a border is over 3, or a border other than constant has a value that is not 0";
+    case HEJSLOPI_COUNT: return "an axis has 0 or over 31 taps, a divisor is 0, a radius is over 15, or a plane's recipe has several stages";
+    case HEJSLOPI_OFFSET: return "an offset is not -15 to 15, or not above the one before it";
+    case HEJSLOPI_REAL_WEIGHT: return "the size of a real weight is neither 0 nor from 2^-12 to 4";
+    case HEJSLOPI_GAIN: return "an axis has a gain above 4";
+    case HEJSLOPI_POSITION: return "a rank's position is 0 or above the number of samples in its window";
+    case HEJSLOPI_CHANNELS: return "the number of channels is neither 1 nor 3";
+    case HEJSLOPI_ROOM: return "a lent buffer has less room than the call needs";
+    case HEJSLOPI_FILE_LONG: return "the still is longer than 65,536 bytes, or the recipe longer than 4,096";
+    case HEJSLOPI_FILE_UNREAD: return "a file cannot be opened, read or written";
+    default: return "unknown";
+    }
+}
 
 /* How many elements must be lent for a picture of w by h.
  * SUMS is for one box stage of radii r, s: a recipe needs the largest of its box stages, 0 if it has none. SUMS_ANY is enough
@@ -85,6 +113,8 @@ uint32_t hejslopi_write_still(size_t width, size_t height, size_t channels,
                               uint8_t *out, size_t out_len, uint64_t result[1]);
 
 /* Read a recipe.
+ * Its fields are tested in the order of their bytes, and the gains of a stage once all its fields have passed, before the next
+ * stage is looked at. So the first bad byte decides, and what stands behind it changes nothing.
  * result: the number of stages S, and the tolerance T, counted in 65,536ths of a grey level.
  * Refusals: 10 to 18. */
 uint32_t hejslopi_read_recipe(const uint8_t *bytes, size_t bytes_len, uint64_t result[2]);

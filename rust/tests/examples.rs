@@ -1,9 +1,8 @@
-//! Document 01's examples and vectors, the wrappers, and a program in C.
+//! Document 01's examples and vectors, and the wrappers.
 mod reference;
 
 use hejslopi::{Lent, Refusal};
 use std::path::{Path, PathBuf};
-use std::process::Command;
 
 fn repository() -> PathBuf {
     Path::new(env!("CARGO_MANIFEST_DIR"))
@@ -310,35 +309,4 @@ fn threads_with_small_stacks() {
             assert_eq!(thread.join().unwrap(), alone);
         }
     });
-}
-
-#[test]
-fn a_program_in_c() {
-    let program = Path::new(env!("CARGO_TARGET_TMPDIR")).join("example");
-    let source = Path::new(env!("CARGO_MANIFEST_DIR")).join("tests/c/example.c");
-    let built = Command::new(std::env::var("CC").unwrap_or("cc".into()))
-        .args([
-            "-std=c99",
-            "-Wall",
-            "-Wextra",
-            "-pedantic",
-            "-Werror",
-            "-O1",
-            "-o",
-        ])
-        .arg(&program)
-        .arg("-I")
-        .arg(repository().join("include"))
-        .arg(source)
-        .arg(env!("HEJSLOPI_LIB"))
-        .output()
-        .expect("cc can be run");
-    assert!(
-        built.status.success(),
-        "{}",
-        String::from_utf8_lossy(&built.stderr)
-    );
-    let run = Command::new(&program).output().unwrap();
-    assert_eq!(String::from_utf8_lossy(&run.stdout), "ok\n");
-    assert!(run.status.success());
 }

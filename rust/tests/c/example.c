@@ -56,6 +56,12 @@ int main(void)
                                 sums, HEJSLOPI_SUMS(3, 1, 1, 0), out, sizeof out, one) == HEJSLOPI_DONE);
     CHECK(one[0] == 32768 && out[0] == 13 && out[1] == 23 && out[2] == 33);
 
+    /* refusals in words */
+    CHECK(strcmp(hejslopi_meaning(HEJSLOPI_DONE), "done") == 0);
+    CHECK(strcmp(hejslopi_meaning(hejslopi_read_still(still, 1, four)), "the file does not begin with P5 or P6") == 0);
+    CHECK(strcmp(hejslopi_meaning(HEJSLOPI_FILE_UNREAD), "a file cannot be opened, read or written") == 0);
+    CHECK(strcmp(hejslopi_meaning(7), "unknown") == 0 && strcmp(hejslopi_meaning(99), "unknown") == 0);
+
     puts("ok");
     return 0;
 }

@@ -1,0 +1,7 @@
+/* The header by itself: what is not used of it is no warning. */
+#include "hejslopi.h"
+
+int main(void)
+{
+    return 0;
+}
