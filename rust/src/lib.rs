@@ -1,7 +1,8 @@
 //! Netpbm stills (P5, P6) filtered by a recipe.
 //!
 //! Five calls: [`read_still`], [`write_still`], [`read_recipe`], [`filter_plane`], [`filter_file`]. Those that write have
-//! a form `.._into` that takes lent buffers and allocates nothing. A [`Refusal`] says why a call did nothing.
+//! a form `.._into` that takes lent buffers and allocates nothing. A [`Refusal`] says why a call did nothing,
+//! and [`faulty_stage`] which stage of a recipe is to blame.
 //!
 //! ```
 //! let still = b"P5\n3 1\n255\n\x0A\x14\x28";
@@ -12,11 +13,14 @@
 //! # Ok::<(), hejslopi::Refusal>(())
 //! ```
 
+mod fault;
 pub mod raw;
 mod refusal;
 mod room;
 
+pub use fault::faulty_stage;
 pub use refusal::Refusal;
+use room::zeros;
 pub use room::{file_need, needs, Lent, Needs, Room};
 
 /// What a still's header says, and at which byte its raster begins.
@@ -102,7 +106,7 @@ pub fn write_still(
     channels: usize,
     raster: &[u8],
 ) -> Result<Vec<u8>, Refusal> {
-    let mut out = vec![0; file_need(width, height, channels).unwrap_or(0)];
+    let mut out = zeros(file_need(width, height, channels).unwrap_or(0));
     let length = write_still_into(width, height, channels, raster, &mut out)?;
     out.truncate(length);
     Ok(out)
@@ -145,7 +149,7 @@ pub fn filter_plane(
         return Err(Refusal::Count);
     }
     let mut room = Room::new(needs(recipe, width, height)?);
-    let mut samples = vec![0; width * height];
+    let mut samples = zeros(width * height);
     let tolerance = filter_plane_into(recipe, width, height, plane, room.lend(), &mut samples)?;
     Ok(Plane { tolerance, samples })
 }
@@ -174,7 +178,7 @@ pub fn filter_file(recipe: &[u8], still: &[u8]) -> Result<File, Refusal> {
     read_recipe(recipe)?;
     let picture = read_still(still)?;
     let mut room = Room::new(needs(recipe, picture.width, picture.height)?);
-    let mut bytes = vec![0; file_need(picture.width, picture.height, picture.channels)?];
+    let mut bytes = zeros(file_need(picture.width, picture.height, picture.channels)?);
     let done = filter_file_into(recipe, still, room.lend(), &mut bytes)?;
     bytes.truncate(done.length);
     Ok(File {

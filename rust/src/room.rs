@@ -15,7 +15,8 @@ pub struct Lent<'a> {
     pub sums: &'a mut [u32],
 }
 
-/// Allocated buffers, to be lent to any number of calls.
+/// Allocated buffers, to be lent to any number of calls. One that there was no memory for is empty: a call that needs it refuses with
+/// [`Refusal::Room`].
 #[derive(Clone, Debug)]
 pub struct Room {
     work: Vec<u8>,
@@ -26,9 +27,9 @@ pub struct Room {
 impl Room {
     pub fn new(needs: Needs) -> Room {
         Room {
-            work: vec![0; needs.work],
-            rows: vec![0; needs.rows],
-            sums: vec![0; needs.sums],
+            work: zeros(needs.work),
+            rows: zeros(needs.rows),
+            sums: zeros(needs.sums),
         }
     }
 
@@ -39,6 +40,15 @@ impl Room {
             sums: &mut self.sums,
         }
     }
+}
+
+/// So many zeros, or none if there is no memory for them.
+pub(crate) fn zeros<T: Clone + Default>(count: usize) -> Vec<T> {
+    let mut all = Vec::new();
+    if all.try_reserve_exact(count).is_ok() {
+        all.resize(count, T::default());
+    }
+    all
 }
 
 fn sides(width: usize, height: usize) -> Result<(), Refusal> {
