@@ -1,0 +1,34 @@
+//! What std does not offer about the process: two calls of the C library, on Linux.
+use std::sync::atomic::{AtomicBool, Ordering};
+
+extern "C" {
+    fn fcntl(descriptor: i32, command: i32, ...) -> i32;
+    fn signal(number: i32, action: usize) -> usize;
+}
+
+const STDOUT: i32 = 1;
+const F_GETFD: i32 = 1;
+const SIGXFSZ: i32 = 25;
+const SIG_IGN: usize = 1;
+
+static STDOUT_CLOSED: AtomicBool = AtomicBool::new(false);
+
+/// Rust opens /dev/null in the place of a closed standard output, and from then on nothing tells it from one that was sent there.
+/// So this looks before Rust does: the system calls what stands in this section first.
+#[used]
+#[link_section = ".init_array"]
+static FIRST: extern "C" fn() = first;
+
+extern "C" fn first() {
+    // SAFETY: both have their types in C, and neither touches memory.
+    unsafe {
+        STDOUT_CLOSED.store(fcntl(STDOUT, F_GETFD) < 0, Ordering::Relaxed);
+        // a file above the user's limit is then an error, and what was begun of it can be removed
+        signal(SIGXFSZ, SIG_IGN);
+    }
+}
+
+/// Whether standard output was closed when the program began.
+pub fn stdout_was_closed() -> bool {
+    STDOUT_CLOSED.load(Ordering::Relaxed)
+}
