@@ -1,10 +1,19 @@
-"""Tests of hejslopi.py: the vectors, and recipes built from descriptions. Run: python3 python/test_hejslopi.py"""
+"""Tests of the package: the calls on the vectors, recipes built from descriptions and back, and places at fault. Run: python3 python/test_hejslopi.py"""
+import array
 import os
+import resource
+import subprocess
+import sys
 import unittest
+from fractions import Fraction
 
 import hejslopi
+from hejslopi import descriptions, reals
 
 VECTORS = os.path.join(os.path.dirname(os.path.abspath(__file__)), "..", "crates", "conformance", "data", "vectors")
+
+STILL = b"P5\n3 1\n255\n\x0A\x14\x28"
+RECIPE = bytes.fromhex("01 03 01 00 01 00")
 
 
 def contents(*path):
@@ -21,8 +30,14 @@ def cases():
             yield name, words
 
 
+def recipes():
+    """The recipes of the vectors, and whether they are accepted: a refusal of a still comes after the recipe has passed."""
+    for name, words in cases():
+        yield name, contents(name, "recipe"), words[0] == b"ok" or int(words[1]) < 10
+
+
 class Vectors(unittest.TestCase):
-    def test_all(self):
+    def test_files(self):
         tried = 0
         for name, words in cases():
             with self.subTest(name):
@@ -36,6 +51,107 @@ class Vectors(unittest.TestCase):
                         hejslopi.filter_file(contents(name, "still"), contents(name, "recipe"))
                     self.assertEqual(raised.exception.number, int(words[1]))
         self.assertGreater(tried, 200)
+
+    def test_planes(self):
+        """A still of one channel and a recipe of one stage are the plane's too."""
+        tried = 0
+        for name, words in cases():
+            if words[0] != b"ok" or words[3] != b"1" or contents(name, "recipe")[0] != 1:
+                continue
+            with self.subTest(name):
+                tried += 1
+                raster, out = (data[-int(words[1]) * int(words[2]):] for data in (contents(name, "still"), contents(name, "out")))
+                self.assertEqual(hejslopi.filter_plane(raster, int(words[1]), int(words[2]), contents(name, "recipe")), (out, int(words[4])))
+        self.assertGreater(tried, 50)
+
+    def test_outputs_read_back(self):
+        for name, words in cases():
+            if words[0] == b"ok":
+                with self.subTest(name):
+                    out = contents(name, "out")
+                    width, height, channels, start = hejslopi.read_still(out)
+                    self.assertEqual([width, height, channels], [int(word) for word in words[1:4]])
+                    self.assertEqual(hejslopi.write_still(width, height, channels, out[start:]), out)
+
+    def test_described(self):
+        """A description of an accepted recipe gives the same bytes."""
+        tried = 0
+        for name, recipe, accepted in recipes():
+            if accepted:
+                with self.subTest(name):
+                    tried += 1
+                    self.assertEqual(hejslopi.recipe(hejslopi.describe(recipe)), recipe)
+        self.assertGreater(tried, 100)
+
+    def test_explained(self):
+        """T after the last stage is the line's, and T never falls but at a stage of a gain below 1."""
+        for name, words in cases():
+            if words[0] == b"ok":
+                with self.subTest(name):
+                    explained = hejslopi.explain(contents(name, "recipe"))
+                    self.assertEqual(explained["tolerance"], int(words[4]))
+                    self.assertEqual(explained["stages"][-1]["tolerance"], int(words[4]))
+                    self.assertEqual(len(explained["stages"]), contents(name, "recipe")[0])
+
+
+class Calls(unittest.TestCase):
+    def refused(self, number, call, *arguments):
+        with self.assertRaises(hejslopi.Refusal) as raised:
+            call(*arguments)
+        self.assertEqual(raised.exception.number, number)
+
+    def test_bytes_only(self):
+        """Five is not five zero bytes, and a text is none either."""
+        for wrong in (5, "P5", None, [1, 3], 1.5, array.array("i", [1])):
+            for call in (hejslopi.read_still, hejslopi.read_recipe, lambda still: hejslopi.filter_file(still, RECIPE),
+                         lambda recipe: hejslopi.filter_file(STILL, recipe), lambda plane: hejslopi.filter_plane(plane, 1, 1, RECIPE),
+                         lambda raster: hejslopi.write_still(1, 1, 1, raster), hejslopi.describe, hejslopi.explain):
+                with self.assertRaisesRegex(TypeError, "bytes are needed"):
+                    call(wrong)
+
+    def test_bytes_like(self):
+        for kind in (bytes, bytearray, memoryview, lambda data: array.array("B", data), lambda data: memoryview(data + data)[:len(data)]):
+            self.assertEqual(hejslopi.filter_file(kind(STILL), kind(RECIPE)), (b"P5\n3 1\n255\n\x0D\x17\x23", 34301))
+            self.assertEqual(hejslopi.filter_plane(kind(STILL[-3:]), 3, 1, kind(RECIPE)), (b"\x0D\x17\x23", 34301))
+            self.assertEqual(hejslopi.write_still(3, 1, 1, kind(STILL[-3:])), STILL)
+
+    def test_numbers_only(self):
+        for wrong in ("3", 3.0, None, True):
+            with self.assertRaisesRegex(TypeError, "width: a whole number is needed"):
+                hejslopi.write_still(wrong, 1, 1, b"abc")
+
+    def test_numbers_that_no_word_holds(self):
+        """2^64 + 3 is not 3."""
+        for wrong in (-1, -(1 << 64) + 3, (1 << 64) + 3, 1 << 70):
+            self.refused(3, hejslopi.write_still, wrong, 1, 1, b"abc")
+            self.refused(3, hejslopi.write_still, 1, wrong, 1, b"abc")
+            self.refused(19, hejslopi.write_still, 3, 1, wrong, b"abc")
+            self.refused(3, hejslopi.filter_plane, b"abc", wrong, 1, RECIPE)
+
+    def test_order_of_refusals(self):
+        """A plane: the recipe's, 14 for several stages, the sides, the samples. A still to be written: channels, sides, samples."""
+        two = bytes.fromhex("02 04 01 00 01 00 04 01 00 01 00")
+        self.refused(10, hejslopi.filter_plane, b"", 0, 0, b"\x09")
+        self.refused(14, hejslopi.filter_plane, b"", 0, 0, two)
+        self.refused(3, hejslopi.filter_plane, b"", 0, 1, RECIPE)
+        self.refused(3, hejslopi.filter_plane, b"", 8193, 1, RECIPE)
+        self.refused(5, hejslopi.filter_plane, b"a", 2, 1, RECIPE)
+        self.refused(6, hejslopi.filter_plane, b"abc", 2, 1, RECIPE)
+        self.refused(19, hejslopi.write_still, 0, 0, 2, b"")
+        self.refused(3, hejslopi.write_still, 0, 1, 1, b"")
+        self.refused(5, hejslopi.write_still, 2, 1, 3, b"abcde")
+        self.refused(6, hejslopi.write_still, 2, 1, 3, b"abcdefg")
+
+    def test_memory(self):
+        """The largest still takes at most twice what the call needs: both files, work bytes, row values and sums."""
+        side = 8192
+        needed = 2 * side * side + 2 * side * side + 4 * side * (side + 30) + 4 * (side + 3) * (side + 3)
+        code = ("import hejslopi\nstill = b'P5\\n8192 8192\\n255\\n' + bytes(8192 * 8192)\n"
+                "assert len(hejslopi.filter_file(still, bytes.fromhex('01 04 01 00 01 01'))[0]) == len(still)\n")
+        limit = lambda: resource.setrlimit(resource.RLIMIT_AS, (2 * needed, 2 * needed))
+        here = os.path.dirname(os.path.abspath(__file__))
+        done = subprocess.run([sys.executable, "-c", code], cwd=here, preexec_fn=limit, stderr=subprocess.PIPE, universal_newlines=True)
+        self.assertEqual((done.returncode, done.stderr), (0, ""))
 
 
 class Recipes(unittest.TestCase):
@@ -53,6 +169,7 @@ class Recipes(unittest.TestCase):
     def test_rank(self):
         self.built({"kind": "rank", "across": 1, "down": 1, "position": "median", "border": "wrap"}, "05 03 00 01 01 00 05")
         self.built({"kind": "rank", "across": 15, "down": 15, "position": "largest"}, "05 01 00 0F 0F 03 C1")
+        self.built({"kind": "rank", "across": 1, "down": 2, "position": "smallest"}, "05 01 00 01 02 00 01")
 
     def test_ratios(self):
         self.built(
@@ -66,15 +183,102 @@ class Recipes(unittest.TestCase):
         )
 
     def test_reals(self):
-        self.built({"kind": "reals", "across": {"-1": 0.25, "0": 0.5}, "down": {"0": -4.0}}, "02 01 00 02 01 FF 00 00 3E 80 00 00 3F 00 00 00 C0 80 00 00")
+        text = "02 01 00 02 01 FF 00 00 3E 80 00 00 3F 00 00 00 C0 80 00 00"
+        self.built({"kind": "reals", "across": {"-1": 0.25, "0": 0.5}, "down": {"0": -4.0}}, text)
+        self.built({"kind": "reals", "across": {-1: 0.25, 0: 0.5}, "down": {"here": -4}}, text)
+
+    def test_words_of_both_axes(self):
+        taps = {"left": 1, "here": 1, "right": 1}, {"up": 2, "here": 2, "down": 2}
+        self.built({"kind": "ratios", "across": {"over": 3, "taps": taps[0]}, "down": {"over": 6, "taps": taps[1]}},
+                   "01 01 00 03 03 00 03 00 06 FF 00 01 FF 00 01 00 01 00 01 00 01 00 02 00 02 00 02")
 
     def test_accepted(self):
         stages = [{"kind": "binomial", "across": 1, "down": 1}, {"kind": "box", "across": 1, "down": 1}]
         self.assertEqual(hejslopi.read_recipe(hejslopi.recipe(stages)), (2, 67579))
 
+    def test_rounded_weights(self):
+        """0.1 lies between 13421772 and 13421773 over 2^27, and is nearer to the second. A quarter is held as it is."""
+        made = descriptions.encode([{"kind": "reals", "across": {"left": 0.1, "here": 0.25}, "down": {"here": 1}}])
+        self.assertEqual([(place, Fraction(held)) for place, _, held in made.rounded], [('stage 1, across, tap "left"', Fraction(13421773, 1 << 27))])
+
+    def test_rounded_once(self):
+        """A little above the middle of two binary32 is nearer to the upper one, though as a binary64 it is the middle, which goes to the even one."""
+        low, step = 1 << 23, Fraction(1, 1 << 23)
+        middle = (low + Fraction(1, 2)) * step
+        self.assertEqual(Fraction(reals.nearest_binary32(middle, float(middle))), low * step)
+        self.assertEqual(Fraction(reals.nearest_binary32(middle + Fraction(1, 1 << 90), float(middle))), (low + 1) * step)
+
+    def test_descriptions_are_as_held(self):
+        """A recipe that something else wrote: an unusual border value, a negative zero, weights with all their digits."""
+        recipe = bytes.fromhex("02 04 00 FF 00 00 02 03 00 02 01 F1 0F 00 3D CC CC CD 80 00 00 00 3F 80 00 00")
+        box, real = hejslopi.describe(recipe)
+        self.assertEqual(box, {"kind": "box", "across": 0, "down": 0, "border": {"constant": 255}})
+        self.assertEqual(real["across"], {"-15": 0.10000000149011612, "15": 0.0})
+        self.assertEqual(str(real["across"]["15"]), "-0.0")
+        self.assertEqual(hejslopi.recipe([box, real]), recipe)
+
+
+class Faults(unittest.TestCase):
+    """Where a recipe is refused, worked by hand."""
+
+    TABLE = (
+        ("", 11, "it has no bytes"),
+        ("09", 10, "byte 1: found 9 stages, allowed: 1 to 8"),
+        ("01 06 01 00", 13, "stage 1, kind: found 6, allowed: 1 ratios, 2 reals, 3 binomial, 4 box, 5 rank"),
+        ("02 03 01 00 01 01 03 04 00 01 01", 13, "stage 2, border: found 4, allowed: 0 constant, 1 nearest, 2 mirror, 3 wrap"),
+        ("01 03 01 05 01 01", 13, "stage 1, border value: found 5, allowed: 0, unless the border is 0 constant"),
+        ("01 03 01 00 01 10", 14, "stage 1, down, radius: found 16, allowed: 0 to 15"),
+        ("01 01 01 00 20 01", 14, "stage 1, across, taps: found 32, allowed: 1 to 31"),
+        ("01 01 01 00 01 01 00 01 00 00", 14, "stage 1, down, divisor: found 0, allowed: 1 to 65,535"),
+        ("01 02 01 00 02 01 00 00", 15, "stage 1, across, tap 2, offset: found 0, allowed: -15 to 15, each above the one before it"),
+        ("01 02 01 00 01 01 00 F0", 15, "stage 1, down, tap 1, offset: found -16, allowed: -15 to 15, each above the one before it"),
+        ("01 02 01 00 01 01 00 00 3F 80 00 00 40 A0 00 00", 16, "stage 1, down, tap 1, weight: found 5.0, allowed: 0, or 2^-12 to 4 in size"),
+        ("01 01 01 00 01 01 00 02 00 01 00 00 00 09 00 01", 17, "stage 1, across: found a gain of 4.5, allowed: at most 4"),
+        ("01 01 01 00 01 01 00 01 00 03 00 00 00 01 FF F3", 17, "stage 1, down: found a gain of 13/3, allowed: at most 4"),
+        ("02 03 01 00 01 01 05 01 00 01 01 00 0A", 18, "stage 2, position: found 10, allowed: 1 to 9, the samples of its window"),
+        ("02 03 01 00 01 01 05 01 00 01 01 00", 11, "stage 2, position: it ends with byte 12"),
+        ("01 03 01 00 01 01 07 07", 12, "its last stage ends with byte 6, and it has 8"),
+    )
+
+    def test_table(self):
+        for text, number, where in self.TABLE:
+            with self.subTest(text), self.assertRaises(hejslopi.Refusal) as raised:
+                hejslopi.read_recipe(bytes.fromhex(text))
+            self.assertEqual((raised.exception.number, raised.exception.where), (number, where))
+
+    def test_stages(self):
+        """The stage that is named is the first that the library refuses when it is told of no later one. 12 says that all so far are well."""
+        tried = 0
+        for name, recipe, accepted in recipes():
+            if accepted or not recipe or not 1 <= recipe[0] <= 8:
+                continue
+            with self.subTest(name):
+                tried += 1
+                answers = [self.answer(bytes([count]) + recipe[1:]) for count in range(1, recipe[0] + 1)]
+                stage = next((k for k, number in enumerate(answers, 1) if number not in (0, 12)), None)
+                with self.assertRaises(hejslopi.Refusal) as raised:
+                    hejslopi.read_recipe(recipe)
+                self.assertTrue(raised.exception.where.startswith("stage %d" % stage if stage else "its last stage"), raised.exception.where)
+        self.assertGreater(tried, 40)
+
+    @staticmethod
+    def answer(recipe):
+        try:
+            hejslopi.read_recipe(recipe)
+        except hejslopi.Refusal as refusal:
+            return refusal.number
+        return 0
+
+    def test_stills(self):
+        for still, where in ((b"P2\n", "it begins with 'P2'"), (b"P", "it has 1 bytes"), (b"P5 0 7 255 ", "found 0 by 7"), (b"P5 1 1 65535 aa", "found 65535"),
+                             (b"P6\n#c\n1 2\n255\nabc", "found 3, needed for 1 by 2: 6"), (b"P5\n1 1\n255\nab", "found 2, needed for 1 by 1: 1"), (b"P5", "")):
+            with self.subTest(still), self.assertRaises(hejslopi.Refusal) as raised:
+                hejslopi.read_still(still)
+            self.assertEqual(raised.exception.where, where)
+
     def test_meaning(self):
         with self.assertRaisesRegex(hejslopi.Refusal, "refused with 18: a rank's position"):
-            hejslopi.read_recipe(hejslopi.recipe([{"kind": "rank", "across": 0, "down": 0, "position": 2}]))
+            hejslopi.read_recipe(bytes.fromhex("01 05 01 00 00 00 00 02"))
 
 
 if __name__ == "__main__":

@@ -1,0 +1,4 @@
+"""python3 -m hejslopi"""
+from .command import entry
+
+entry()

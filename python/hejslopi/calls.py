@@ -1,0 +1,160 @@
+"""The five calls. Each takes bytes-like objects only, and raises `Refusal` where the library refuses; nothing is kept between calls."""
+from __future__ import annotations
+
+import ctypes
+import operator
+from typing import Any, NamedTuple, Tuple, Union
+
+from . import faults
+from .library import call
+from .refusals import OF_RECIPES, Refusal
+from .stage_bytes import read_stages
+
+BytesLike = Union[bytes, bytearray, memoryview]
+
+MOST_SIDE = 8192
+
+
+class Still(NamedTuple):
+    """What a still's header says, and at which of its bytes the raster begins."""
+    width: int
+    height: int
+    channels: int
+    raster_start: int
+
+
+class Recipe(NamedTuple):
+    """How many stages a recipe has, and its tolerance T in 65,536ths of a grey level."""
+    stages: int
+    tolerance: int
+
+
+class FilteredFile(NamedTuple):
+    """A filtered still as a file's bytes, and T in 65,536ths of a grey level."""
+    picture: bytes
+    tolerance: int
+
+
+class FilteredPlane(NamedTuple):
+    """A filtered plane, and T in 65,536ths of a grey level."""
+    samples: bytes
+    tolerance: int
+
+
+# ---- what is handed on
+
+
+def taken(name: str, given: BytesLike) -> bytes:
+    """The bytes of an argument: as they are, or copied from what somebody might alter while the library reads. Nothing else is taken for bytes."""
+    if isinstance(given, bytes):
+        return given
+    try:
+        view = memoryview(given)
+    except TypeError:
+        raise TypeError("%s: bytes are needed, and this is of type %s" % (name, type(given).__name__)) from None
+    if view.itemsize != 1:
+        raise TypeError("%s: bytes are needed, and these are elements of %d bytes each" % (name, view.itemsize))
+    return view.tobytes()
+
+
+def size(name: str, given: int) -> int:
+    """A number for the library. One that no machine word holds is as far from every allowed one as 0, which is handed on in its place."""
+    if isinstance(given, bool):
+        raise TypeError("%s: a whole number is needed, and this is of type bool" % name)
+    try:
+        number = operator.index(given)
+    except TypeError:
+        raise TypeError("%s: a whole number is needed, and this is of type %s" % (name, type(given).__name__)) from None
+    return number if 0 <= number < 1 << 64 else 0
+
+
+def results(count: int) -> Any:
+    return (ctypes.c_uint64 * count)()
+
+
+def room(count: int) -> Any:
+    return (ctypes.c_uint8 * count)()
+
+
+def are_sides(width: int, height: int) -> bool:
+    return 1 <= width <= MOST_SIDE and 1 <= height <= MOST_SIDE
+
+
+def file_length(width: int, height: int, channels: int) -> int:
+    """How many bytes the header and the raster of such a still have."""
+    return len("P5\n%d %d\n255\n" % (width, height)) + width * height * channels
+
+
+def sums_needed(recipe: BytesLike, width: int, height: int) -> int:
+    """How many sums the box stages of an accepted recipe need: the largest table, or 0."""
+    need = 0
+    for stage in read_stages(taken("recipe", recipe)):
+        if not stage.whole:
+            raise ValueError("stage %d cannot be followed here, so how many sums it needs is not known" % stage.number)
+        if stage.kind == "box":
+            need = max(need, int((width + 2 * stage.one("radius", "across") + 1) * (height + 2 * stage.one("radius", "down") + 1)))
+    return need
+
+
+def lent(recipe: bytes, width: int, height: int) -> Tuple[Any, Any, Any]:
+    """Work bytes, row values and sums, just as many as an accepted recipe needs for such a picture."""
+    return room(2 * width * height), (ctypes.c_int32 * (width * (height + 30)))(), (ctypes.c_uint32 * sums_needed(recipe, width, height))()
+
+
+def done(number: int, recipe: bytes = b"", still: bytes = b"") -> None:
+    """Raises the refusal of a call, with the place at fault."""
+    if number in OF_RECIPES:
+        raise Refusal(number, faults.in_recipe(recipe, number))
+    if number:
+        raise Refusal(number, faults.in_still(still, number))
+
+
+# ---- the calls
+
+
+def read_still(still: BytesLike) -> Still:
+    """Width, height, channels, and at which index of the bytes the raster begins."""
+    still, result = taken("still", still), results(4)
+    done(call("hejslopi_read_still", still, result), still=still)
+    return Still(*result)
+
+
+def write_still(width: int, height: int, channels: int, raster: BytesLike) -> bytes:
+    """A still as a file's bytes: header and raster."""
+    width, height, channels = size("width", width), size("height", height), size("channels", channels)
+    raster, result = taken("raster", raster), results(1)
+    # What is going to be refused for another reason is lent nothing.
+    right = are_sides(width, height) and channels in (1, 3) and len(raster) == width * height * channels
+    out = room(file_length(width, height, channels) if right else 0)
+    done(call("hejslopi_write_still", width, height, channels, raster, out, result))
+    return ctypes.string_at(out, result[0])
+
+
+def read_recipe(recipe: BytesLike) -> Recipe:
+    """How many stages a recipe has, and its tolerance T."""
+    recipe, result = taken("recipe", recipe), results(2)
+    done(call("hejslopi_read_recipe", recipe, result), recipe)
+    return Recipe(*result)
+
+
+def filter_plane(plane: BytesLike, width: int, height: int, recipe: BytesLike) -> FilteredPlane:
+    """A plane of width times height samples, row by row, filtered by a recipe of one stage."""
+    plane, recipe = taken("plane", plane), taken("recipe", recipe)
+    width, height = size("width", width), size("height", height)
+    stages = read_recipe(recipe).stages
+    right = stages == 1 and are_sides(width, height) and len(plane) == width * height
+    out, result = room(width * height if right else 0), results(1)
+    number = call("hejslopi_filter_plane", recipe, width, height, plane, *lent(recipe if right else b"", width, height if right else 0), out, result)
+    if number:
+        raise Refusal(number, "found %d stages, %d by %d, %d samples" % (stages, width, height, len(plane)))
+    return FilteredPlane(bytes(out), result[0])
+
+
+def filter_file(still: BytesLike, recipe: BytesLike) -> FilteredFile:
+    """A still, as a file's bytes, filtered by a recipe: the filtered still, as a file's bytes, and the tolerance T."""
+    still, recipe = taken("still", still), taken("recipe", recipe)
+    read_recipe(recipe)
+    width, height, channels, _ = read_still(still)
+    out, result = room(file_length(width, height, channels)), results(5)
+    done(call("hejslopi_filter_file", recipe, still, *lent(recipe, width, height), out, result), recipe, still)
+    return FilteredFile(ctypes.string_at(out, result[4]), result[3])

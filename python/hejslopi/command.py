@@ -1,0 +1,191 @@
+"""The command `hejslopi`: recipes made, explained and described, and stills filtered by them.
+
+It ends with 0 only where all was done and said, with 1 for a refusal or a wrong description, with 2 for wrong usage and for what cannot be read, written or
+printed. Whatever is wrong is said in one line on standard error.
+"""
+from __future__ import annotations
+
+import json
+import signal
+import sys
+from typing import Callable, Dict, List, NamedTuple, Tuple
+
+from . import calls, describing, descriptions, explaining, files, json_text
+from .filtering import about, filter_into
+from .library import LibraryError
+from .many import filter_many
+from .output import DONE, FAILED, INTERRUPTED, Trouble, complain, name_text, prepare, say
+
+Options = Dict[str, str]
+
+
+class Usage(Exception):
+    """The command was called wrongly."""
+
+
+# ---- what the words do
+
+
+def make_recipe(words: List[str], options: Options) -> int:
+    description, target = words
+    if files.same(description, target):
+        raise Usage("RECIPE is the description, which would be lost")
+    with about(description):
+        made = descriptions.encode(json_text.parsed(files.read_whole(description, files.MOST_DESCRIPTION)))
+        answer = calls.read_recipe(made.recipe)
+    files.write(target, made.recipe)
+    for place, given, held in made.rounded:
+        complain("%s: %s: %s is held as %r, the nearest binary32" % (name_text(description), place, given, held))
+    say("stages %d T %d" % answer)
+    return DONE
+
+
+def filter_stills(words: List[str], options: Options) -> int:
+    if "--into" in options:
+        return filter_many(words[0], words[1:], options["--into"])
+    still, recipe, target = words
+    if files.same(recipe, target):
+        raise Usage("OUT is the recipe, which would be lost")
+    say("T %d" % filter_into(still, recipe, files.read(recipe, files.MOST_RECIPE), target))
+    return DONE
+
+
+def explain(words: List[str], options: Options) -> int:
+    with about(words[0]):
+        explained = explaining.explain(files.read(words[0], files.MOST_RECIPE))
+    say(json.dumps(explained, indent=1) if "--json" in options else explaining.explanation_text(explained))
+    return DONE
+
+
+def describe(words: List[str], options: Options) -> int:
+    with about(words[0]):
+        described = describing.describe(files.read(words[0], files.MOST_RECIPE))
+    say(describing.description_text(described))
+    return DONE
+
+
+# ---- how they are called
+
+
+class Word(NamedTuple):
+    """A word of the command: how it is called (`arguments`: for how many words without --into), what it does, and its options."""
+    usages: Tuple[str, ...]
+    arguments: int
+    options: Tuple[str, ...]
+    help: str
+    work: Callable[[List[str], Options], int]
+
+
+WORDS = {
+    "recipe": Word(("recipe DESCRIPTION RECIPE",), 2, (), """\
+Makes the bytes of a recipe from a description in JSON, and prints how many stages it has and its T.
+A weight of reals that is no binary32 is rounded to the nearest, and that is said. RECIPE is written only if the library accepts it.
+
+A description is a list of 1 to 8 stages:
+  [{"kind": "binomial", "across": 1, "down": 1},
+   {"kind": "box", "across": 2, "down": 2, "border": {"constant": 20}},
+   {"kind": "rank", "across": 1, "down": 1, "position": "median", "border": "mirror"},
+   {"kind": "ratios", "across": {"over": 4, "taps": {"left": 1, "here": 2, "right": 1}}, "down": {"over": 1, "taps": {"here": 1}}},
+   {"kind": "reals", "across": {"-1": 0.25, "0": 0.5, "1": 0.25}, "down": {"0": 1}}]
+kind      binomial, box, rank (radii 0 to 15), ratios (whole weights over a divisor), reals (weights as binary32)
+border    nearest (where none is given), mirror, wrap, {"constant": VALUE} with a value from 0 to 255
+position  of a rank: smallest, median, largest, or a number from 1
+taps      offsets from -15 to 15; across also left, here, right; down also up, here, down""", make_recipe),
+    "filter": Word(("filter STILL RECIPE OUT", "filter RECIPE STILL.. --into FOLDER"), 3, ("--into=",), """\
+Filters a still, a P5 or P6 file of up to 8,192 by 8,192, into OUT and prints T, in 65,536ths of a grey level.
+With --into, filters each STILL into a file of the same name in FOLDER, which is made if it is missing. A still that is refused does not stop the others.
+A file that was there before is replaced as a whole, or is left as it was.""", filter_stills),
+    "explain": Word(("explain RECIPE [--json]",), 1, ("--json",), """\
+Prints what a recipe does: for each stage its kind, its border, how many samples it looks at and at which offsets, the sum and the gain of its weights
+on each axis, and T after it, in 65,536ths and in grey levels; then what T means for a movement limit.
+With --json the same for programs, sums and gains as exact texts.""", explain),
+    "describe": Word(("describe RECIPE",), 1, (), """\
+Prints a description of a recipe, in JSON, that gives the same bytes. A weight is shown as it is held.""", describe),
+}
+
+STATUSES = """\
+Ends with 0 only where all was done and said, with 1 for a refusal or a wrong description, with 2 for wrong usage and for what cannot be
+read, written or printed. What is wrong is said in one line on standard error."""
+
+
+def usage_of(word: str) -> str:
+    return " | ".join("hejslopi " + usage for usage in WORDS[word].usages)
+
+
+def help_of(word: str) -> str:
+    return "usage: %s\n\n%s\n\n%s" % (usage_of(word).replace(" | ", "\n       "), WORDS[word].help, STATUSES)
+
+
+def help_of_all() -> str:
+    lines = ["  hejslopi %s" % usage for word in WORDS.values() for usage in word.usages]
+    return "Filters Netpbm stills by recipes, with a tolerance that is proved.\n\n%s\n\n`hejslopi WORD --help` says more of each.\n%s" % ("\n".join(lines), STATUSES)
+
+
+def parted(word: str, given: List[str]) -> Tuple[List[str], Options]:
+    """Words and options. An option that ends in = takes a value; behind -- all are words."""
+    words: List[str] = []
+    options: Options = {}
+    rest = list(given)
+    while rest:
+        item = rest.pop(0)
+        name, equals, value = item.partition("=")
+        if item == "--":
+            return words + rest, options
+        if item in ("-h", "--help"):
+            options["--help"] = ""
+        elif not item.startswith("-") or item == "-":
+            words.append(item)
+        elif name in WORDS[word].options and not equals:
+            options[name] = ""
+        elif name + "=" in WORDS[word].options and (equals or rest):
+            options[name] = value if equals else rest.pop(0)
+        else:
+            raise Usage("found the option %s" % name_text(item))
+    return words, options
+
+
+def run(given: List[str]) -> int:
+    """Does what the words say."""
+    if given and given[0] in ("-h", "--help", "help"):
+        say(help_of_all())
+        return DONE
+    if not given or given[0] not in WORDS:
+        raise Usage("found %s, allowed: %s" % ("the word %s" % name_text(given[0]) if given else "no word", ", ".join(WORDS)))
+    word = given[0]
+    try:
+        words, options = parted(word, given[1:])
+        if "--help" in options:
+            say(help_of(word))
+            return DONE
+        if len(words) < 2 if "--into" in options else len(words) != WORDS[word].arguments:
+            raise Usage("found %d words behind `%s`" % (len(words), word))
+        return WORDS[word].work(words, options)
+    except Usage as wrong:
+        raise Trouble(FAILED, "%s; usage: %s" % (wrong, usage_of(word))) from None
+
+
+def main(given: List[str]) -> int:
+    """The status. Nothing that a person may type leads to anything but a line and a status."""
+    try:
+        prepare()
+        return run(given)
+    except Trouble as trouble:
+        complain(str(trouble))
+        return trouble.status
+    except Usage as wrong:
+        complain("%s; `hejslopi --help` says more" % wrong)
+    except KeyboardInterrupt:
+        complain("interrupted")
+        return INTERRUPTED
+    except (LibraryError, NotImplementedError) as wrong:
+        complain(str(wrong))
+    except Exception as wrong:
+        complain("this should not happen: %s: %s" % (type(wrong).__name__, " ".join(str(wrong).split())))
+    return FAILED
+
+
+def entry() -> None:
+    """The command. One that is ended from outside removes what it has half written."""
+    for number in (signal.SIGTERM, signal.SIGHUP):
+        signal.signal(number, lambda number, _: sys.exit(128 + number))
+    sys.exit(main(sys.argv[1:]))

@@ -1,0 +1,107 @@
+"""What a recipe does, for people and for programs: its stages, and how T grows. Every T is the library's, from reading the recipe's first stages."""
+from __future__ import annotations
+
+from typing import Any, Dict, List
+
+from .calls import BytesLike, read_recipe, taken
+from .describing import stage_described, stages_of
+from .kernels import fraction_text, gain, weights, window
+from .stage_bytes import AXES, Stage
+
+UNITS = 65536
+
+# 255 grey levels: all that there are.
+MOST_TOLERANCE = 255 * UNITS
+
+
+def tolerance_after(recipe: bytes, stage: Stage) -> int:
+    """T of a recipe's first stages, up to this one."""
+    return read_recipe(bytes([stage.number]) + recipe[1:stage.fields[-1].end]).tolerance
+
+
+def offsets(stage: Stage, axis: str) -> List[int]:
+    """The offsets that a stage looks at on an axis."""
+    if ("radius", axis) in stage.values:
+        radius = int(stage.one("radius", axis))
+        return list(range(-radius, radius + 1))
+    return [int(offset) for offset in stage.values["offset", axis]]
+
+
+def axis_explained(stage: Stage, axis: str) -> Dict[str, Any]:
+    """The offsets of an axis, and exactly, as texts, the sum and the gain of its weights. A rank has no weights."""
+    held = weights(stage, axis)
+    return {"offsets": offsets(stage, axis), "sum": fraction_text(sum(held)) if held else None, "gain": fraction_text(gain(stage, axis)) if held else None}
+
+
+def stage_explained(recipe: bytes, stage: Stage) -> Dict[str, Any]:
+    tolerance = tolerance_after(recipe, stage)
+    explained: Dict[str, Any] = {"stage": stage.number, "kind": stage.kind, "border": stage.border, "border_value": stage.one("border value")}
+    for axis in AXES:
+        explained[axis] = axis_explained(stage, axis)
+    if stage.kind == "rank":
+        explained["position"], explained["window"] = stage.one("position"), window(stage)
+    explained.update({"tolerance": tolerance, "grey_levels": tolerance / UNITS, "description": stage_described(stage)})
+    return explained
+
+
+def explain(recipe: BytesLike) -> Dict[str, Any]:
+    """What an accepted recipe does. One that is refused raises `Refusal`.
+
+    `tolerance` is T in 65,536ths of a grey level, `grey_levels` the same in grey levels. Between two stills filtered by this recipe no sample can surely be
+    still under a movement limit below `least_movement_limit`, in grey levels. `says_nothing`: T is all 255 grey levels.
+    """
+    given = taken("recipe", recipe)
+    tolerance = read_recipe(given).tolerance
+    return {
+        "stages": [stage_explained(given, stage) for stage in stages_of(given)],
+        "tolerance": tolerance,
+        "grey_levels": tolerance / UNITS,
+        "least_movement_limit": 2 * tolerance / UNITS,
+        "says_nothing": tolerance >= MOST_TOLERANCE,
+    }
+
+
+# ---- for people
+
+
+def levels_text(tolerance: int) -> str:
+    """Grey levels to four decimals, never less than they are."""
+    return "%.4f" % (-(-tolerance * 10000 // UNITS) / 10000)
+
+
+def axis_text(axis: Dict[str, Any]) -> str:
+    """How many samples an axis looks at, and how far."""
+    first, last, count = axis["offsets"][0], axis["offsets"][-1], len(axis["offsets"])
+    return "%d at %d" % (count, first) if count == 1 else "%d at %d to %d" % (count, first, last)
+
+
+def row(stage: Dict[str, Any]) -> List[str]:
+    kind = "rank %d of %d" % (stage["position"], stage["window"]) if "position" in stage else stage["kind"]
+    border = "constant %d" % stage["border_value"] if stage["border"] == "constant" else stage["border"]
+    axes = [text for axis in AXES for text in (axis_text(stage[axis]), stage[axis]["sum"] or "-", stage[axis]["gain"] or "-")]
+    return [str(stage["stage"]), kind, border, *axes, str(stage["tolerance"]), levels_text(stage["tolerance"])]
+
+
+HEADINGS = ["stage", "kind", "border", "across", "sum", "gain", "down", "sum", "gain", "T", "levels"]
+
+
+def meaning_of(tolerance: int) -> List[str]:
+    """What T says, in sentences."""
+    if tolerance >= MOST_TOLERANCE:
+        return ["T is %d, all 255 grey levels: it says nothing about a sample." % tolerance]
+    if tolerance == 0:
+        return ["T is 0: every sample is the exact result."]
+    least = -(-2 * tolerance // UNITS)
+    return [
+        "No sample is further than T/65,536 from the exact result: %d/65,536, %s grey levels." % (tolerance, levels_text(tolerance)),
+        "Between two stills filtered by it, no sample can surely be still under a movement limit below 2 T: %s grey levels, so %d as a whole number."
+        % (levels_text(2 * tolerance), least),
+    ]
+
+
+def explanation_text(explained: Dict[str, Any]) -> str:
+    """A table of the stages, and below it what T means."""
+    rows = [HEADINGS] + [row(stage) for stage in explained["stages"]]
+    widths = [max(len(line[k]) for line in rows) for k in range(len(HEADINGS))]
+    table = ["  ".join(cell.ljust(width) for cell, width in zip(line, widths)).rstrip() for line in rows]
+    return "\n".join(table + [""] + meaning_of(explained["tolerance"]))

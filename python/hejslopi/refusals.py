@@ -1,0 +1,35 @@
+"""The refusals of the library by their numbers, and what each means."""
+from __future__ import annotations
+
+MEANINGS = {
+    1: "the file does not begin with P5 or P6",
+    2: "the header lacks a separator, a number or the whitespace byte at its end",
+    3: "the width or the height is not from 1 to 8,192",
+    4: "the header's maximum is not 255",
+    5: "there are fewer samples than the picture's size asks for",
+    6: "there are more samples than the picture's size asks for",
+    10: "the number of stages is 0 or over 8",
+    11: "the recipe ends before a field is complete",
+    12: "the recipe goes on after its last stage",
+    13: "a kind is not 1 to 5, a border is over 3, or a border other than constant has a value that is not 0",
+    14: "an axis has 0 or over 31 taps, a divisor is 0, a radius is over 15, or a plane's recipe has several stages",
+    15: "an offset is not -15 to 15, or not above the one before it",
+    16: "the size of a real weight is neither 0 nor from 2^-12 to 4",
+    17: "an axis has a gain above 4",
+    18: "a rank's position is 0 or above the number of samples in its window",
+    19: "the number of channels is neither 1 nor 3",
+    20: "a lent buffer has less room than the call needs",
+}
+
+# The numbers whose cause lies in the recipe; all others lie in the still or in the call.
+OF_RECIPES = range(10, 19)
+
+
+class Refusal(Exception):
+    """A call that was refused: `number`, what that means in `meaning`, and in `where` the place at fault as far as one can be named."""
+
+    def __init__(self, number: int, where: str = "") -> None:
+        self.number = number
+        self.meaning = MEANINGS.get(number, "unknown")
+        self.where = where
+        super().__init__("refused with %d: %s" % (number, self.meaning) + (" (%s)" % where if where else ""))
