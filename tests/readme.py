@@ -91,6 +91,16 @@ def from_c(tally, room):
     tally.equal("the example in C", says(command, room), (0, said + "\n"))
 
 
+def c_program(tally, room):
+    """The whole program in C, by the command printed for it."""
+    command, _ = command_of(printed(section("From C"), "cc -I include c/filter.c"), "cc ")
+    os.symlink(os.path.abspath("c"), os.path.join(room, "c"))
+    written(os.path.join(room, "STILL"), program.STILL)
+    written(os.path.join(room, "RECIPE"), program.RECIPE)
+    tally.equal("the whole program in C", says(command, room), (0, program.LINE + "\n"))
+    tally.equal("the whole program in C: OUT", folders.lies_at(os.path.join(room, "OUT")).bytes, program.OUT)
+
+
 def from_rust(tally, room):
     """The lines in Rust, in a package that depends on this one. They compare by themselves, so a run without an error is all."""
     lines = printed(section("From Rust"), "let still")
@@ -130,15 +140,44 @@ def from_python(tally, room):
     tally.equal("the example in Python", answer, (0, "%s %s\n" % (samples, tolerance)))
 
 
-def python_commands(tally, room):
-    """The two commands of the Python module, on the description that is printed above them."""
+def described(room):
+    """Lays the description in JSON, a still for it, and gives the lines of the commands below it."""
     lines = printed(section("From Python"), "[{")
     first = next(k for k, line in enumerate(lines) if line.startswith("python3 "))
     written(os.path.join(room, "description.json"), "\n".join(lines[:first]).encode())
     written(os.path.join(room, "still.pgm"), program.STILL)
-    for beginning in ("python3 python/hejslopi.py recipe", "python3 python/hejslopi.py filter"):
-        command, said = command_of(lines, beginning)
-        tally.equal(beginning, says(command, room), (0, said + "\n"))
+    return lines[first:]
+
+
+COMMAND = "python3 python/hejslopi.py"
+
+
+def python_commands(tally, room):
+    """The commands in Python that say what they print: a recipe made, a still filtered, a recipe explained."""
+    lines = described(room)
+    for beginning in ("recipe", "filter still.pgm"):
+        command, said = command_of(lines, "%s %s" % (COMMAND, beginning))
+        tally.equal(command, says(command, room), (0, said + "\n"))
+    command, _ = command_of(lines, COMMAND + " explain")
+    table = next(k for k, line in enumerate(lines) if line.startswith("stage "))
+    tally.equal(command, says(command, room), (0, "\n".join(lines[table:]) + "\n"))
+
+
+def python_commands_on(tally, room):
+    """The commands that say what becomes of it: a description that gives the same bytes, many stills, the line about a wrong description."""
+    lines = described(room)
+    says(command_of(lines, COMMAND + " recipe")[0], room)
+    _, description = says(command_of(lines, COMMAND + " describe")[0], room)
+    written(os.path.join(room, "again.json"), description.encode())
+    says(COMMAND + " recipe again.json again.recipe", room)
+    again, before = (folders.lies_at(os.path.join(room, name)).bytes for name in ("again.recipe", "denoise.recipe"))
+    tally.equal("a recipe described and made again", again, before)
+    written(os.path.join(room, "another.pgm"), program.STILL)
+    command, _ = command_of(lines, COMMAND + " filter denoise.recipe")
+    tally.equal(command, says(command, room), (0, "filtered/another.pgm T 34811\nfiltered/still.pgm T 34811\n"))
+    wrong = found(r"answered with its place: `([^`]+)`", section("From Python"), "answer to a wrong description")
+    written(os.path.join(room, "wrong.json"), b'[{"kind": "binomail", "across": 1, "down": 1}]')
+    tally.equal("a wrong description", says(COMMAND + " recipe wrong.json wrong", room), (1, "hejslopi: wrong.json: %s\n" % wrong))
 
 
 # ---- recipes byte by byte
@@ -173,7 +212,7 @@ def recipes(tally, room):
 
 def try_readme(tally):
     """Each example in a folder of its own, so that none finds what another has made. One that is not there is a failure and stops no other."""
-    for example in (from_shell, recipes, from_c, from_python, python_commands, from_rust, rust_program):
+    for example in (from_shell, recipes, from_c, c_program, from_python, python_commands, python_commands_on, from_rust, rust_program):
         with folders.fresh_folder() as room:
             stand_in(room)
             try:

@@ -5,24 +5,30 @@ import subprocess
 import sys
 import time
 
+import commands
+import front_ends
 import program
 import readme
 import scripts
 import suites
+import wordings
 from tally import Tally, Words
 
 GROUPS = {
     "program": ("the program on every vector, with out in every state", lambda tally: program.try_vectors(tally, program.to_try())),
     "files": ("the program with its files in every state", lambda tally: program.try_files(tally, program.to_try())),
     "filter": ("./filter", scripts.try_filter),
+    "fronts": ("filtering a still from the shell, Python, Rust and C", front_ends.try_front_ends),
+    "commands": ("the command hejslopi", commands.try_commands),
     "readme": ("README's examples", readme.try_readme),
     "python": ("python/test_hejslopi.py", suites.python),
+    "wordings": ("the meaning of each refusal, wherever it is said", wordings.try_wordings),
     "tools": ("tools/expected, rt fmt", scripts.try_tools),
     "rust": ("cargo test", suites.rust),
 }
 
 # Variables that would lead a group to another library, or a runner to other words.
-UNSET = ("HEJSLOPI_LIB_DIR", "HEJSLOPI_LIBRARY", "FORCE_COLOR", "PYTHONPATH")
+UNSET = ("HEJSLOPI_LIB_DIR", "FORCE_COLOR", "PYTHONPATH")
 SET = {"CARGO_TERM_COLOR": "never", "NO_COLOR": "1"}
 
 

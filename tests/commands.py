@@ -1,0 +1,278 @@
+"""The command `hejslopi` in Python: making, explaining and describing recipes, many stills at once, and what it says when something is missing.
+
+What it shares with the other front ends, filtering one still, is tried in front_ends.py.
+"""
+import collections
+import json
+import os
+import pty
+import shutil
+import subprocess
+import sys
+
+import descriptions
+import folders
+import program
+from folders import bytes_of
+from scripts import written
+from tally import Words
+
+Answer = collections.namedtuple("Answer", "status stdout stderr")
+
+OLD = b"an old file"
+TWO_STAGES = bytes.fromhex("02 03 01 00 01 01 04 01 00 01 01")
+# Weights -1 4 1 over 4 across: they add up to 1, and their sizes to 3/2. Then an edge of sixteen times the gain, three times over.
+SHARPEN = bytes.fromhex("01 01 02 00 03 01 00 04 00 01 FF 00 01 00 FF FF 00 04 00 01 00 01")
+FOURFOLD = bytes.fromhex("01 00 00 01 01 00 01 00 01 00 00 00 04 00 04")
+LOUD = b"\x04\x03\x01\x00\x01\x01" + 3 * FOURFOLD
+
+
+def environment(**changed):
+    return {name: value for name, value in dict(os.environ, **changed).items() if value is not None}
+
+
+def run(words, cwd, prepare=None, stdout=subprocess.PIPE, command=None, **changed):
+    """How the command ends and what it prints."""
+    command = command or [sys.executable, os.path.abspath(os.path.join("python", "hejslopi.py"))]
+    done = subprocess.run(command + words, cwd=cwd, stdin=subprocess.DEVNULL, stdout=stdout, stderr=subprocess.PIPE, preexec_fn=prepare, timeout=program.PATIENCE,
+                          env=environment(**changed))
+    return Answer(done.returncode, (done.stdout or b"").decode("utf-8", "backslashreplace"), done.stderr.decode("utf-8", "backslashreplace"))
+
+
+def one_line(tally, where, answer, status, *words):
+    """One test: nothing but a single line on standard error, with these words."""
+    lines = answer.stderr.splitlines()
+    if (answer.status, answer.stdout, len(lines)) == (status, "", 1) and all(word in lines[0] for word in words) and "should not happen" not in lines[0]:
+        tally.passes()
+    else:
+        tally.fails(where, answer, Words("%d and one line with %s" % (status, words)))
+
+
+def kept(tally, where, room, name):
+    """One test: the old file is there as it was, and nothing half written beside it."""
+    tally.equal(where, (bytes_of(os.path.join(room, name)), [name for name in os.listdir(room) if name.startswith(".")]), (OLD, []))
+
+
+# ---- recipes from descriptions
+
+
+def wrong_descriptions(tally):
+    """Each ends in its line, and the old recipe stays."""
+    with folders.fresh_folder() as room:
+        written(os.path.join(room, "recipe"), OLD)
+        for text, words in descriptions.WRONG:
+            where = "the description %s" % (text[:60],)
+            written(os.path.join(room, "wrong.json"), text if isinstance(text, bytes) else text.encode())
+            one_line(tally, where, run(["recipe", "wrong.json", "recipe"], room), 1, "wrong.json: ", *words)
+            kept(tally, where, room, "recipe")
+
+
+def recipes_made(tally):
+    """A new recipe, one over an old file, one with a weight that has to be rounded, and targets that take none."""
+    with folders.fresh_folder() as room:
+        written(os.path.join(room, "two.json"), b'[{"kind": "binomial", "across": 1, "down": 1},\n {"kind": "box", "across": 1, "down": 1}]\n')
+        written(os.path.join(room, "old"), OLD)
+        for name in ("new", "old"):
+            tally.equal("recipe into %s" % name, run(["recipe", "two.json", name], room), Answer(0, "stages 2 T 67579\n", ""))
+            tally.equal("recipe into %s: bytes" % name, bytes_of(os.path.join(room, name)), TWO_STAGES)
+        written(os.path.join(room, "real.json"), (descriptions.REALS % '{"left": 0.1, "here": 0.25}').encode())
+        note = 'hejslopi: real.json: stage 1, across, tap "left": 0.1 is held as 0.10000000149011612, the nearest binary32\n'
+        answer = run(["recipe", "real.json", "real"], room)
+        tally.equal("a weight that is rounded", (answer.status, answer.stderr), (0, note))
+        tally.equal("a weight that is rounded: bytes", bytes_of(os.path.join(room, "real"))[9:17], bytes.fromhex("3D CC CC CD 3E 80 00 00"))
+        written(os.path.join(room, "kept"), OLD)
+        one_line(tally, "a missing description", run(["recipe", "none.json", "kept"], room), 2, "none.json: cannot be read: No such file")
+        one_line(tally, "a folder as description", run(["recipe", ".", "kept"], room), 2, ".: cannot be read: Is a directory")
+        one_line(tally, "an endless description", run(["recipe", "/dev/zero", "kept"], room), 2, "/dev/zero: cannot be read: it is longer")
+        one_line(tally, "a folder as recipe", run(["recipe", "two.json", "."], room), 2, ".: cannot be written: Is a directory")
+        one_line(tally, "the description as recipe", run(["recipe", "two.json", "./two.json"], room), 2, "would be lost", "usage")
+        if os.path.exists("/dev/full"):
+            one_line(tally, "a full device", run(["recipe", "two.json", "/dev/full"], room), 2, "/dev/full: cannot be written: No space left")
+        one_line(tally, "too little room", run(["recipe", "two.json", "kept"], room, program.bounded(len(TWO_STAGES) - 1)), 2, "kept: cannot be written")
+        kept(tally, "too little room: kept", room, "kept")
+
+
+# ---- explaining and describing
+
+
+def explained(tally):
+    """The words of the table, with sums, gains and T worked by hand or taken from document 01's examples."""
+    with folders.fresh_folder() as room:
+        for name, data in (("two", TWO_STAGES), ("sharpen", SHARPEN), ("loud", LOUD), ("rank", bytes.fromhex("01 05 00 07 01 02 00 08"))):
+            written(os.path.join(room, name), data)
+        answer = run(["explain", "two"], room)
+        rows = [line.split() for line in answer.stdout.splitlines()]
+        axis = ["3", "at", "-1", "to", "1", "1", "1"]
+        tally.equal("explain: a binomial", rows[1], ["1", "binomial", "nearest"] + 2 * axis + ["34811", "0.5312"])
+        # 67,579 over 65,536 is 1.03117.., and twice that 2.06234..: rounded up, since it bounds.
+        tally.equal("explain: a box", rows[2], ["2", "box", "nearest"] + 2 * axis + ["67579", "1.0312"])
+        last = answer.stdout.splitlines()[-1]
+        tally.equal("explain: the movement limit", ["2 T: 2.0624 grey levels, so 3 as" in last, answer.status, answer.stderr], [True, 0, ""])
+        tally.equal("explain: ratios", run(["explain", "sharpen"], room).stdout.splitlines()[1].split()[:14],
+                    "1 ratios mirror 3 at -1 to 1 1 1.5 1 at 0 1".split())
+        tally.equal("explain: a rank", run(["explain", "rank"], room).stdout.splitlines()[1].split(),
+                    "1 rank 8 of 15 constant 7 3 at -1 to 1 - - 5 at -2 to 2 - - 0 0.0000".split())
+        tally.equal("explain: T 0", run(["explain", "rank"], room).stdout.splitlines()[-1], "T is 0: every sample is the exact result.")
+        tally.equal("explain: T at its most", "it says nothing" in run(["explain", "loud"], room).stdout.splitlines()[-1], True)
+        one_line(tally, "explain: a refused recipe", run(["explain", "none"], room), 2, "none: cannot be read: No such file")
+        explained_to_programs(tally, room)
+
+
+def explained_to_programs(tally, room):
+    """The same as JSON."""
+    told = json.loads(run(["explain", "--json", "sharpen"], room).stdout)
+    stage = told["stages"][0]
+    tally.equal("explain --json: ratios", [stage["kind"], stage["border"], stage["across"], stage["down"]["offsets"]],
+                ["ratios", "mirror", {"offsets": [-1, 0, 1], "sum": "1", "gain": "1.5"}, [0]])
+    told = json.loads(run(["explain", "two", "--json"], room).stdout)
+    tally.equal("explain --json: T", [[stage["tolerance"] for stage in told["stages"]], told["tolerance"], told["grey_levels"], told["least_movement_limit"]],
+                [[34811, 67579], 67579, 67579 / 65536, 67579 / 32768])
+    told = json.loads(run(["explain", "loud", "--json"], room).stdout)
+    tally.equal("explain --json: T at its most", [told["tolerance"], told["says_nothing"]], [16711680, True])
+
+
+def described(tally):
+    """What is described and made again has the same bytes."""
+    with folders.fresh_folder() as room:
+        for name, data in (("two", TWO_STAGES), ("sharpen", SHARPEN), ("loud", LOUD), ("example", program.RECIPE)):
+            written(os.path.join(room, name), data)
+            answer = run(["describe", name], room)
+            written(os.path.join(room, "again.json"), answer.stdout.encode())
+            run(["recipe", "again.json", "again"], room)
+            tally.equal("describe %s" % name, (answer.status, answer.stderr, bytes_of(os.path.join(room, "again"))), (0, "", data))
+        written(os.path.join(room, "refused"), b"\x01\x09")
+        for word in ("describe", "explain"):
+            one_line(tally, "%s: a refused recipe" % word, run([word, "refused"], room), 1, "refused: refused with 13", "stage 1, kind", "found 9", "1 ratios")
+
+
+# ---- many stills
+
+
+def many(tally):
+    """Good ones are filtered whatever the others are, each has its line, and the worst decides the status."""
+    with folders.fresh_folder() as room:
+        for name in ("a.pgm", "b.pgm", "c.pgm"):
+            written(os.path.join(room, name), program.STILL)
+        written(os.path.join(room, "bad.pgm"), b"P5\n3 1\n255\nab")
+        written(os.path.join(room, "recipe"), program.RECIPE)
+        answer = run(["filter", "recipe", "a.pgm", "b.pgm", "--into", "good"], room)
+        tally.equal("many", answer, Answer(0, "good/a.pgm T 34301\ngood/b.pgm T 34301\n", ""))
+        tally.equal("many: files", {name: bytes_of(os.path.join(room, "good", name)) for name in os.listdir(os.path.join(room, "good"))},
+                    {"a.pgm": program.OUT, "b.pgm": program.OUT})
+        os.mkdir(os.path.join(room, "there"))
+        answer = run(["filter", "recipe", "bad.pgm", "--into=there", "a.pgm"], room)
+        tally.equal("many, one refused", (answer.status, answer.stdout, answer.stderr.count("\n"), "bad.pgm: refused with 5" in answer.stderr),
+                    (1, "there/a.pgm T 34301\n", 1, True))
+        answer = run(["filter", "--into", "there", "recipe", "none.pgm", "bad.pgm", "c.pgm"], room)
+        tally.equal("many, one missing", (answer.status, answer.stdout, answer.stderr.count("\n")), (2, "there/c.pgm T 34301\n", 2))
+        tally.equal("many, some refused: files", sorted(os.listdir(os.path.join(room, "there"))), ["a.pgm", "c.pgm"])
+        many_refused(tally, room)
+        bar(tally, room)
+
+
+def many_refused(tally, room):
+    """Nothing is begun where an input or an output would be lost, or the recipe is refused."""
+    os.mkdir(os.path.join(room, "other"))
+    shutil.copy(os.path.join(room, "a.pgm"), os.path.join(room, "other", "a.pgm"))
+    os.symlink("../b.pgm", os.path.join(room, "other", "b.pgm"))
+    written(os.path.join(room, "refused"), b"\x01\x09")
+    for where, words, status, said in (
+        ("two of one name", ["recipe", "a.pgm", "other/a.pgm", "--into", "new"], 2, "new/a.pgm: two of the stills have this name"),
+        ("into their own folder", ["recipe", "a.pgm", "--into", "."], 2, "./a.pgm: is one of the files to be read"),
+        ("over an input through a link", ["recipe", "b.pgm", "--into", "other"], 2, "other/b.pgm: is one of the files to be read"),
+        ("a refused recipe", ["refused", "a.pgm", "--into", "new"], 1, "refused: refused with 13"),
+        ("a missing recipe", ["none", "a.pgm", "--into", "new"], 2, "none: cannot be read"),
+        ("a file as folder", ["recipe", "a.pgm", "--into", "b.pgm"], 2, "b.pgm: "),
+        ("a folder that cannot be made", ["recipe", "a.pgm", "--into", "none/new"], 2, "none/new: "),
+        ("no still", ["recipe", "--into", "new"], 2, "usage"),
+        ("no folder", ["recipe", "a.pgm", "--into"], 2, "usage"),
+    ):
+        one_line(tally, "many: %s" % where, run(["filter"] + words, room), status, said)
+    tally.equal("many: nothing begun", os.path.exists(os.path.join(room, "new")), False)
+    tally.equal("many: the inputs", [bytes_of(os.path.join(room, name)) for name in ("a.pgm", "b.pgm")], [program.STILL] * 2)
+
+
+def bar(tally, room):
+    """On a terminal a bar grows, and a line at its end says how many."""
+    master, terminal = pty.openpty()
+    answer = run(["filter", "recipe", "a.pgm", "bad.pgm", "b.pgm", "--into", "shown"], room, stdout=terminal)
+    os.close(terminal)
+    shown = os.read(master, 65536).decode()
+    os.close(master)
+    steps = [step in shown for step in ("] 0 of 3", "] 1 of 3", "] 2 of 3", "] 3 of 3")]
+    tally.equal("many on a terminal", (answer.status, steps, shown.split("\r")[-2].strip("\033[K"), "T 34301" in shown), (1, [True] * 4, "2 of 3 filtered into shown", False))
+
+
+# ---- usage and help
+
+
+def usage(tally):
+    with folders.fresh_folder() as room:
+        for words, said in (([], "no word"), (["filtr"], "the word filtr"), (["recipe"], "usage: hejslopi recipe DESCRIPTION RECIPE"), (["explain"], "usage"),
+                            (["explain", "a", "b"], "usage"), (["describe", "--json", "a"], "the option --json"), (["filter", "-x", "a", "b", "c"], "the option -x"),
+                            (["explain", "--json=1", "a"], "the option --json=1")):
+            one_line(tally, "usage: %s" % words, run(words, room), 2, said)
+        for words in (["--help"], ["-h"], ["recipe", "--help"], ["filter", "-h"], ["explain", "--help"], ["describe", "x", "--help"]):
+            answer = run(words, room)
+            tally.equal("help: %s" % words, (answer.status, answer.stderr, "hejslopi" in answer.stdout, "Ends with 0" in answer.stdout), (0, "", True, True))
+        if os.path.exists("/dev/full"):
+            with open("/dev/full", "wb") as full:
+                one_line(tally, "help on a full device", run(["--help"], room, stdout=full), 2, "standard output cannot be written: No space left")
+
+
+# ---- the library
+
+
+def library_missing(tally):
+    """A library, a compiler or a place for the shared object that is missing: one line each."""
+    with folders.fresh_folder() as room:
+        written(os.path.join(room, "recipe"), program.RECIPE)
+        empty, archive = os.path.join(room, "empty"), os.path.join(room, "archive")
+        os.mkdir(empty)
+        os.mkdir(archive)
+        one_line(tally, "no library", run(["explain", "recipe"], room, HEJSLOPI_LIB_DIR=empty), 2, "no library at", "rt staticlib capi", "HEJSLOPI_LIB_DIR")
+        shutil.copy(os.path.join("target", "staticlib", "libcapi.a"), archive)
+        one_line(tally, "no compiler", run(["explain", "recipe"], room, HEJSLOPI_LIB_DIR=archive, PATH=empty), 2, "the C compiler cc is not to be found")
+        answer = run(["explain", "recipe"], room, HEJSLOPI_LIB_DIR=archive)
+        tally.equal("another folder of the library", (answer.status, answer.stderr, sorted(os.listdir(archive))), (0, "", ["libcapi.a", "libcapi.so"]))
+        written(os.path.join(archive, "libcapi.a"), b"no archive")
+        os.utime(os.path.join(archive, "libcapi.so"), (0, 0))
+        one_line(tally, "no archive", run(["explain", "recipe"], room, HEJSLOPI_LIB_DIR=archive), 2, "libcapi.so cannot be made")
+
+
+def library_closed(tally):
+    """A folder that is closed to writing, for a user whom that stops."""
+    with folders.fresh_folder() as room:
+        shutil.copytree("python", os.path.join(room, "python"))
+        shutil.copy(os.path.join("target", "staticlib", "libcapi.a"), room)
+        written(os.path.join(room, "recipe"), program.RECIPE)
+        for python in (sys.executable, "/usr/bin/python3"):
+            try:
+                answer = run(["explain", "recipe"], room, program.bounded(plain_user=True), command=[python, os.path.join(room, "python", "hejslopi.py")], HEJSLOPI_LIB_DIR=room)
+            except (OSError, subprocess.SubprocessError):
+                continue
+            one_line(tally, "a closed folder of the library", answer, 2, "libcapi.so cannot be made: its folder is closed to writing")
+            return
+        tally.skips("no Python here that a plain user may run", 1)
+
+
+def pip_installs(tally):
+    """pip makes the package and its command without a network, and what is installed needs neither the repository nor cc."""
+    with folders.fresh_folder() as room:
+        written(os.path.join(room, "recipe"), TWO_STAGES)
+        target = os.path.join(room, "installed")
+        command = [sys.executable, "-m", "pip", "install", "--quiet", "--no-index", "--no-deps", "--disable-pip-version-check", "--no-cache-dir", "--target", target]
+        done = subprocess.run(command + [os.path.abspath("python")], cwd=room, stdin=subprocess.DEVNULL, stdout=subprocess.PIPE, stderr=subprocess.STDOUT, universal_newlines=True)
+        if "No module named pip" in done.stdout:
+            tally.skips("there is no pip", 1)
+            return
+        if done.returncode != 0:
+            tally.fails("pip install", Words(done.stdout), Words("an installed package"))
+            return
+        answer = run(["explain", "recipe"], room, command=[os.path.join(target, "bin", "hejslopi")], PYTHONPATH=target, PATH="/nowhere")
+        tally.equal("the installed command", (answer.status, answer.stderr, answer.stdout.splitlines()[2].split()[-2:]), (0, "", ["67579", "1.0312"]))
+
+
+def try_commands(tally):
+    for part in (recipes_made, wrong_descriptions, explained, described, many, usage, library_missing, library_closed, pip_installs):
+        part(tally)
