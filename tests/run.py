@@ -5,6 +5,7 @@ import subprocess
 import sys
 import time
 
+import cargo_build
 import commands
 import front_ends
 import program
@@ -24,6 +25,7 @@ GROUPS = {
     "python": ("python/test_hejslopi.py", suites.python),
     "wordings": ("the meaning of each refusal, wherever it is said", wordings.try_wordings),
     "tools": ("tools/expected, rt fmt", scripts.try_tools),
+    "cargo": ("how the Rust package finds its library", cargo_build.try_build),
     "rust": ("cargo test", suites.rust),
 }
 
