@@ -44,6 +44,14 @@ static int same_file(const char *one, const char *other)
     return stat(one, &a) == 0 && stat(other, &b) == 0 && a.st_dev == b.st_dev && a.st_ino == b.st_ino;
 }
 
+/* Whether a path leads to the regular file that standard output goes to: a line printed there would be lost with the old file. */
+static int takes_output(const char *path)
+{
+    struct stat file, output;
+    return stat(path, &file) == 0 && S_ISREG(file.st_mode) && fstat(STDOUT_FILENO, &output) == 0
+        && file.st_dev == output.st_dev && file.st_ino == output.st_ino;
+}
+
 /* Makes room for as many bytes. */
 static int resize(struct bytes *bytes, size_t room)
 {

@@ -167,9 +167,11 @@ int main(int count, char **words)
         fputs("usage: filter STILL RECIPE OUT\n", stderr);
         return FAILED;
     }
-    if (same_file(words[RECIPE], words[OUT])) {
+    const char *wrong = same_file(words[RECIPE], words[OUT]) ? "is the recipe"
+        : takes_output(words[OUT]) ? "is the file that standard output goes to" : NULL;
+    if (wrong) {
         about(words[OUT]);
-        fputs("is the recipe\n", stderr);
+        fprintf(stderr, "%s\n", wrong);
         return FAILED;
     }
     return run(words);

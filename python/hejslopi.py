@@ -1,5 +1,10 @@
 #!/usr/bin/env python3
 """The command `hejslopi` for who has not installed it: python3 python/hejslopi.py. To Python, `import hejslopi` is the package beside this file."""
-from hejslopi.command import entry
+import os
+import sys
+
+sys.path.insert(0, os.path.dirname(os.path.abspath(__file__)))
+
+from hejslopi.command import entry  # noqa: E402
 
 entry()

@@ -1,6 +1,7 @@
 """Tests of the package: the calls on the vectors, recipes built from descriptions and back, and places at fault. Run: python3 python/test_hejslopi.py"""
 import array
 import os
+import pickle
 import resource
 import subprocess
 import sys
@@ -40,17 +41,19 @@ class Vectors(unittest.TestCase):
     def test_files(self):
         tried = 0
         for name, words in cases():
+            tried += 1
             with self.subTest(name):
-                tried += 1
-                if words[0] == b"ok":
-                    picture, tolerance = hejslopi.filter_file(contents(name, "still"), contents(name, "recipe"))
-                    self.assertEqual(tolerance, int(words[4]))
-                    self.assertEqual(picture, contents(name, "out"))
-                else:
-                    with self.assertRaises(hejslopi.Refusal) as raised:
-                        hejslopi.filter_file(contents(name, "still"), contents(name, "recipe"))
-                    self.assertEqual(raised.exception.number, int(words[1]))
+                expected = (contents(name, "out"), int(words[4])) if words[0] == b"ok" else int(words[1])
+                self.assertEqual(self.answer(contents(name, "still"), contents(name, "recipe")), expected)
         self.assertGreater(tried, 200)
+
+    @staticmethod
+    def answer(still, recipe):
+        """The picture and T, or the number of the refusal."""
+        try:
+            return hejslopi.filter_file(still, recipe)
+        except hejslopi.Refusal as refusal:
+            return refusal.number
 
     def test_planes(self):
         """A still of one channel and a recipe of one stage are the plane's too."""
@@ -84,7 +87,7 @@ class Vectors(unittest.TestCase):
         self.assertGreater(tried, 100)
 
     def test_explained(self):
-        """T after the last stage is the line's, and T never falls but at a stage of a gain below 1."""
+        """T after the last stage is the line's, and each stage is there."""
         for name, words in cases():
             if words[0] == b"ok":
                 with self.subTest(name):
@@ -122,7 +125,7 @@ class Calls(unittest.TestCase):
 
     def test_numbers_that_no_word_holds(self):
         """2^64 + 3 is not 3."""
-        for wrong in (-1, -(1 << 64) + 3, (1 << 64) + 3, 1 << 70):
+        for wrong in (-1, -(1 << 64) + 3, (1 << 64) + 3, 1 << 70, 8193, 1 << 31, 1 << 58):
             self.refused(3, hejslopi.write_still, wrong, 1, 1, b"abc")
             self.refused(3, hejslopi.write_still, 1, wrong, 1, b"abc")
             self.refused(19, hejslopi.write_still, 3, 1, wrong, b"abc")
@@ -141,6 +144,16 @@ class Calls(unittest.TestCase):
         self.refused(3, hejslopi.write_still, 0, 1, 1, b"")
         self.refused(5, hejslopi.write_still, 2, 1, 3, b"abcde")
         self.refused(6, hejslopi.write_still, 2, 1, 3, b"abcdefg")
+
+    def test_sent_to_another_process(self):
+        for wrong in (self.raised(hejslopi.read_recipe, b"\x01\x09"), self.raised(hejslopi.recipe, [])):
+            again = pickle.loads(pickle.dumps(wrong))
+            self.assertEqual((type(again), str(again)), (type(wrong), str(wrong)))
+
+    def raised(self, call, argument):
+        with self.assertRaises((hejslopi.Refusal, hejslopi.Mistake)) as raised:
+            call(argument)
+        return raised.exception
 
     def test_memory(self):
         """The largest still takes at most twice what the call needs: both files, work bytes, row values and sums."""
@@ -237,7 +250,7 @@ class Faults(unittest.TestCase):
         ("01 01 01 00 01 01 00 01 00 03 00 00 00 01 FF F3", 17, "stage 1, down: found a gain of 13/3, allowed: at most 4"),
         ("02 03 01 00 01 01 05 01 00 01 01 00 0A", 18, "stage 2, position: found 10, allowed: 1 to 9, the samples of its window"),
         ("02 03 01 00 01 01 05 01 00 01 01 00", 11, "stage 2, position: it ends with byte 12"),
-        ("01 03 01 00 01 01 07 07", 12, "its last stage ends with byte 6, and it has 8"),
+        ("01 03 01 00 01 01 07 07", 12, "its last stage ends with byte 6, and more follow"),
     )
 
     def test_table(self):
@@ -271,7 +284,9 @@ class Faults(unittest.TestCase):
 
     def test_stills(self):
         for still, where in ((b"P2\n", "it begins with 'P2'"), (b"P", "it has 1 bytes"), (b"P5 0 7 255 ", "found 0 by 7"), (b"P5 1 1 65535 aa", "found 65535"),
-                             (b"P6\n#c\n1 2\n255\nabc", "found 3, needed for 1 by 2: 6"), (b"P5\n1 1\n255\nab", "found 2, needed for 1 by 1: 1"), (b"P5", "")):
+                             (b"P6\n#c\n1 2\n255\nabc", "found 3, needed for 1 by 2: 6"), (b"P5\n1 1\n255\nab", "found 2, needed for 1 by 1: 1"), (b"P5", ""),
+                             # Only LF ends a comment.
+                             (b"P5#a\r9 9 9 \n3 1\n255\nab", "found 2, needed for 3 by 1: 3"), (b"P5#a\r0 0 255 \n8193 1\n255\nab", "found 8193 by 1")):
             with self.subTest(still), self.assertRaises(hejslopi.Refusal) as raised:
                 hejslopi.read_still(still)
             self.assertEqual(raised.exception.where, where)

@@ -3,12 +3,15 @@
 What it shares with the other front ends, filtering one still, is tried in front_ends.py.
 """
 import collections
+import fcntl
 import json
 import os
 import pty
 import shutil
+import struct
 import subprocess
 import sys
+import termios
 
 import descriptions
 import folders
@@ -80,6 +83,13 @@ def recipes_made(tally):
         answer = run(["recipe", "real.json", "real"], room)
         tally.equal("a weight that is rounded", (answer.status, answer.stderr), (0, note))
         tally.equal("a weight that is rounded: bytes", bytes_of(os.path.join(room, "real"))[9:17], bytes.fromhex("3D CC CC CD 3E 80 00 00"))
+        written(os.path.join(room, "again.json"), run(["describe", "real"], room).stdout.encode())
+        tally.equal("a weight as it is described", run(["recipe", "again.json", "again"], room).stderr, "")
+        if os.path.exists("/dev/full"):
+            command = [os.path.join(room, "on-full")]
+            written(command[0], ('#!/bin/sh\nexec "%s" "%s" "$@" 2>/dev/full\n' % (sys.executable, os.path.abspath(os.path.join("python", "hejslopi.py")))).encode())
+            os.chmod(command[0], 0o755)
+            tally.equal("a note that is lost", run(["recipe", "real.json", "real"], room, command=command).status, 2)
         written(os.path.join(room, "kept"), OLD)
         one_line(tally, "a missing description", run(["recipe", "none.json", "kept"], room), 2, "none.json: cannot be read: No such file")
         one_line(tally, "a folder as description", run(["recipe", ".", "kept"], room), 2, ".: cannot be read: Is a directory")
@@ -104,17 +114,17 @@ def explained(tally):
         rows = [line.split() for line in answer.stdout.splitlines()]
         axis = ["3", "at", "-1", "to", "1", "1", "1"]
         tally.equal("explain: a binomial", rows[1], ["1", "binomial", "nearest"] + 2 * axis + ["34811", "0.5312"])
-        # 67,579 over 65,536 is 1.03117.., and twice that 2.06234..: rounded up, since it bounds.
+        # 67,579 over 65,536 is 1.03117.., rounded up since it bounds. Twice that is 2.06234..: rounded down, so that what is said of limits below stays true.
         tally.equal("explain: a box", rows[2], ["2", "box", "nearest"] + 2 * axis + ["67579", "1.0312"])
         last = answer.stdout.splitlines()[-1]
-        tally.equal("explain: the movement limit", ["2 T: 2.0624 grey levels, so 3 as" in last, answer.status, answer.stderr], [True, 0, ""])
+        tally.equal("explain: the movement limit", ["2 T/65,536: 2.0623 grey levels, so 3 as" in last, answer.status, answer.stderr], [True, 0, ""])
         tally.equal("explain: ratios", run(["explain", "sharpen"], room).stdout.splitlines()[1].split()[:14],
                     "1 ratios mirror 3 at -1 to 1 1 1.5 1 at 0 1".split())
         tally.equal("explain: a rank", run(["explain", "rank"], room).stdout.splitlines()[1].split(),
                     "1 rank 8 of 15 constant 7 3 at -1 to 1 - - 5 at -2 to 2 - - 0 0.0000".split())
         tally.equal("explain: T 0", run(["explain", "rank"], room).stdout.splitlines()[-1], "T is 0: every sample is the exact result.")
         tally.equal("explain: T at its most", "it says nothing" in run(["explain", "loud"], room).stdout.splitlines()[-1], True)
-        one_line(tally, "explain: a refused recipe", run(["explain", "none"], room), 2, "none: cannot be read: No such file")
+        one_line(tally, "explain: a missing recipe", run(["explain", "none"], room), 2, "none: cannot be read: No such file")
         explained_to_programs(tally, room)
 
 
@@ -129,6 +139,12 @@ def explained_to_programs(tally, room):
                 [[34811, 67579], 67579, 67579 / 65536, 67579 / 32768])
     told = json.loads(run(["explain", "loud", "--json"], room).stdout)
     tally.equal("explain --json: T at its most", [told["tolerance"], told["says_nothing"]], [16711680, True])
+    # Weights 1/3 of ratios, and of reals the binary32 next to 0.1 and 1/4: 13421773/2^27 + 1/4 = 46976205/2^27.
+    written(os.path.join(room, "thirds"), bytes.fromhex("01 01 01 00 02 01 00 03 00 01 00 01 00 00 01 00 01 00 01"))
+    written(os.path.join(room, "tenth"), bytes.fromhex("01 02 01 00 02 01 00 01 00 3D CC CC CD 3E 80 00 00 3F 80 00 00"))
+    sums = [json.loads(run(["explain", name, "--json"], room).stdout)["stages"][0]["across"]["sum"] for name in ("thirds", "tenth")]
+    tally.equal("explain --json: exact sums", sums, ["2/3", "46976205/134217728"])
+    tally.equal("explain: a sum that is shortened", run(["explain", "tenth"], room).stdout.splitlines()[1].split()[8], "~0.35000")
 
 
 def described(tally):
@@ -175,30 +191,44 @@ def many_refused(tally, room):
     os.mkdir(os.path.join(room, "other"))
     shutil.copy(os.path.join(room, "a.pgm"), os.path.join(room, "other", "a.pgm"))
     os.symlink("../b.pgm", os.path.join(room, "other", "b.pgm"))
+    os.mkdir(os.path.join(room, "linked"))
+    os.symlink("c.pgm", os.path.join(room, "linked", "a.pgm"))
     written(os.path.join(room, "refused"), b"\x01\x09")
     for where, words, status, said in (
-        ("two of one name", ["recipe", "a.pgm", "other/a.pgm", "--into", "new"], 2, "new/a.pgm: two of the stills have this name"),
+        ("two of one name", ["recipe", "a.pgm", "other/a.pgm", "--into", "new"], 2, "new/a.pgm: two of the stills would be written there"),
         ("into their own folder", ["recipe", "a.pgm", "--into", "."], 2, "./a.pgm: is one of the files to be read"),
         ("over an input through a link", ["recipe", "b.pgm", "--into", "other"], 2, "other/b.pgm: is one of the files to be read"),
+        ("over another's output through a link", ["recipe", "a.pgm", "c.pgm", "--into", "linked"], 2, "linked/c.pgm: two of the stills would be written there"),
         ("a refused recipe", ["refused", "a.pgm", "--into", "new"], 1, "refused: refused with 13"),
         ("a missing recipe", ["none", "a.pgm", "--into", "new"], 2, "none: cannot be read"),
         ("a file as folder", ["recipe", "a.pgm", "--into", "b.pgm"], 2, "b.pgm: "),
         ("a folder that cannot be made", ["recipe", "a.pgm", "--into", "none/new"], 2, "none/new: "),
         ("no still", ["recipe", "--into", "new"], 2, "usage"),
         ("no folder", ["recipe", "a.pgm", "--into"], 2, "usage"),
+        ("a word in place of the folder", ["recipe", "a.pgm", "--into", "--json"], 2, "usage"),
+        ("two folders", ["recipe", "a.pgm", "--into", "new", "--into", "newer"], 2, "--into twice"),
     ):
         one_line(tally, "many: %s" % where, run(["filter"] + words, room), status, said)
     tally.equal("many: nothing begun", os.path.exists(os.path.join(room, "new")), False)
     tally.equal("many: the inputs", [bytes_of(os.path.join(room, name)) for name in ("a.pgm", "b.pgm")], [program.STILL] * 2)
 
 
-def bar(tally, room):
-    """On a terminal a bar grows, and a line at its end says how many."""
+def on_terminal(words, room, columns):
+    """What the command shows on a terminal of so many columns, and how it ends."""
     master, terminal = pty.openpty()
-    answer = run(["filter", "recipe", "a.pgm", "bad.pgm", "b.pgm", "--into", "shown"], room, stdout=terminal)
+    fcntl.ioctl(terminal, termios.TIOCSWINSZ, struct.pack("HHHH", 24, columns, 0, 0))
+    answer = run(words, room, stdout=terminal)
     os.close(terminal)
     shown = os.read(master, 65536).decode()
     os.close(master)
+    return answer, shown
+
+
+def bar(tally, room):
+    """On a terminal a bar grows, and a line at its end says how many. On one that is too narrow for it no line is broken."""
+    answer, narrow = on_terminal(["filter", "recipe", "a.pgm", "--into", "narrow"], room, 5)
+    tally.equal("many on a narrow terminal", (answer.status, "[" in narrow.replace("\033[K", ""), max(map(len, narrow.replace("\033[K", "").split("\r")[:-2]))), (0, False, 4))
+    answer, shown = on_terminal(["filter", "recipe", "a.pgm", "bad.pgm", "b.pgm", "--into", "shown"], room, 80)
     steps = [step in shown for step in ("] 0 of 3", "] 1 of 3", "] 2 of 3", "] 3 of 3")]
     tally.equal("many on a terminal", (answer.status, steps, shown.split("\r")[-2].strip("\033[K"), "T 34301" in shown), (1, [True] * 4, "2 of 3 filtered into shown", False))
 
@@ -210,9 +240,9 @@ def usage(tally):
     with folders.fresh_folder() as room:
         for words, said in (([], "no word"), (["filtr"], "the word filtr"), (["recipe"], "usage: hejslopi recipe DESCRIPTION RECIPE"), (["explain"], "usage"),
                             (["explain", "a", "b"], "usage"), (["describe", "--json", "a"], "the option --json"), (["filter", "-x", "a", "b", "c"], "the option -x"),
-                            (["explain", "--json=1", "a"], "the option --json=1")):
+                            (["explain", "--json=1", "a"], "the option --json=1"), (["explain", "--json", "a", "--json"], "--json twice")):
             one_line(tally, "usage: %s" % words, run(words, room), 2, said)
-        for words in (["--help"], ["-h"], ["recipe", "--help"], ["filter", "-h"], ["explain", "--help"], ["describe", "x", "--help"]):
+        for words in (["--help"], ["-h"], ["help"], ["recipe", "--help"], ["filter", "-h"], ["explain", "--help"], ["describe", "x", "--help"], ["help", "filter"]):
             answer = run(words, room)
             tally.equal("help: %s" % words, (answer.status, answer.stderr, "hejslopi" in answer.stdout, "Ends with 0" in answer.stdout), (0, "", True, True))
         if os.path.exists("/dev/full"):
@@ -237,7 +267,20 @@ def library_missing(tally):
         tally.equal("another folder of the library", (answer.status, answer.stderr, sorted(os.listdir(archive))), (0, "", ["libcapi.a", "libcapi.so"]))
         written(os.path.join(archive, "libcapi.a"), b"no archive")
         os.utime(os.path.join(archive, "libcapi.so"), (0, 0))
-        one_line(tally, "no archive", run(["explain", "recipe"], room, HEJSLOPI_LIB_DIR=archive), 2, "libcapi.so cannot be made")
+        one_line(tally, "no archive", run(["explain", "recipe"], room, HEJSLOPI_LIB_DIR=archive), 2, "libcapi.so cannot be made", "libcapi.a")
+        another_library(tally, room)
+
+
+def another_library(tally, room):
+    """A library of another kind, and one that is none."""
+    for where, source in (("an empty library", ["-x", "c", "/dev/null"]), ("no library at all", None)):
+        other = os.path.join(room, where)
+        os.mkdir(other)
+        if source:
+            subprocess.run(["cc", "-shared", "-o", os.path.join(other, "libcapi.so")] + source, check=True)
+        else:
+            written(os.path.join(other, "libcapi.so"), b"none")
+        one_line(tally, where, run(["explain", "recipe"], room, HEJSLOPI_LIB_DIR=other), 2, "librar")
 
 
 def library_closed(tally):

@@ -31,7 +31,6 @@ WRONG = (
     (b"[\x80]", ("byte 2", "80", "UTF-8")),
     (b"\0", ("line 1, column 1", "\\u0000")),
     ("[" * 100000, ("brackets",)),
-    (REALS % '{"here": NaN}', ("NaN",)),
     # no list of stages
     ("[]", ("0 stages", "1 to 8")),
     (boxes(*[""] * 9), ("9 stages", "1 to 8")),
@@ -69,6 +68,7 @@ WRONG = (
     (boxes(', "border": {"constant": true}'), ("stage 1, border, constant", "found true")),
     (boxes(', "border": {"nearest": 0}'), ("stage 1, border", 'the key "nearest"', "constant")),
     (boxes(', "border": {"constant": 1, "constant": 2}'), ("stage 1, border", "twice")),
+    (boxes(', "border": {}'), ("stage 1, border", 'no key "constant"')),
     # ranks
     (RANK % "", ("stage 1", 'no key "position"')),
     (RANK % ', "position": 0', ("stage 1, position", "found 0", "from 1 to 9")),
@@ -102,7 +102,12 @@ WRONG = (
     (REALS % '{"here": 1e-400}', ('stage 1, across, tap "here"', "1E-400", REAL)),
     (REALS % '{"here": 1e999999999999}', ('stage 1, across, tap "here"', REAL)),
     (REALS % '{"here": -1e99999999999999999999}', ("1e99999999999999999999", "a number that can be held")),
-    (REALS % '{"here": 4.5}', ("refused with 16", "stage 1, across, tap 1, weight", "4.5", REAL)),
-    (REALS % '{"here": 0.0002}', ("refused with 16", "stage 1, across, tap 1, weight", REAL)),
+    (REALS % '{"here": 4.5}', ('stage 1, across, tap "here"', "found 4.5", REAL)),
+    (REALS % '{"here": 4.0000003}', ('stage 1, across, tap "here"', "found 4.0000003", REAL)),
+    (REALS % '{"here": 0.0002}', ('stage 1, across, tap "here"', "found 0.0002", REAL)),
+    (REALS % '{"here": NaN}', ('stage 1, across, tap "here"', "found NaN", REAL)),
+    (REALS % '{"here": -Infinity}', ('stage 1, across, tap "here"', "found -Infinity", REAL)),
+    ('[{"kind": "box", "across": NaN, "down": 1}]', ("stage 1, across", "found NaN", RADIUS)),
+    (REALS % ("{%s}" % ", ".join('"k%d": 1' % k for k in range(50000))), ("stage 1, across", "50000 taps", "1 to 31")),
     (REALS % '{"here": 3, "1": 3}', ("refused with 17", "stage 1, across", "a gain of 6")),
 )

@@ -175,6 +175,12 @@ def wrong_usage(calls):
         before = lies_at(os.path.join(room, "recipe"))
         calls.said("out is the recipe", calls.run(["still", "recipe", "./recipe"], room), 2, "", "recipe")
         kept(calls, "out is the recipe", room, "recipe", before)
+        # Nothing lies there for the system, though it would if the path were shortened first.
+        calls.said("out is the recipe by way of nothing", calls.run(["still", "recipe", "none/../recipe"], room), 2, "no 22", "cannot be written", "No such file")
+        kept(calls, "out is the recipe by way of nothing", room, "recipe", before)
+    with laid(printed=holding(b"")) as room, open(os.path.join(room, "printed"), "wb") as printed:
+        calls.said("out is standard output", calls.run(["still", "recipe", "/dev/stdout"], room, stdout=printed), 2, "", "standard output")
+        calls.tally.equal(calls.where("out is standard output: printed"), bytes_of(os.path.join(room, "printed")), b"")
 
 
 def refuses(calls):
@@ -218,7 +224,8 @@ def cannot_read(calls):
 def cannot_write(calls):
     """No place for it: a folder, a device that is full, a folder that is missing, too little room."""
     for what, name, lay, words in (("a folder", "out", folder, "Is a directory"), ("in a missing folder", "none/out", None, "No such file"),
-                                   ("in a file", "still/out", None, "Not a directory"), ("a name that ends in a slash", "none/", None, "")):
+                                   ("in a file", "still/out", None, "Not a directory"), ("a name that ends in a slash", "none/", None, ""),
+                                   ("no name", "", None, "No such file")):
         with laid(**({name: lay} if lay else {})) as room:
             calls.said("out " + what, calls.run(["still", "recipe", name], room), 2, "no 22", "cannot be written", words)
     if os.path.exists("/dev/full"):
@@ -247,6 +254,13 @@ def closed_to_writing(calls):
         kept(calls, "a closed folder", room, "out", before)
 
 
+def fill_up(path):
+    """Makes a file of all the room that is left."""
+    with contextlib.suppress(OSError), open(path, "wb", 0) as rest:
+        while True:
+            rest.write(bytes(1024))
+
+
 def full_disk(calls):
     """A file system with no room left: what was there stays whole."""
     with laid(disk=folder) as room:
@@ -257,9 +271,7 @@ def full_disk(calls):
             return
         try:
             holding(OLD)(os.path.join(disk, "out"))
-            with contextlib.suppress(OSError), open(os.path.join(disk, "rest"), "wb", 0) as rest:
-                while True:
-                    rest.write(bytes(1024))
+            fill_up(os.path.join(disk, "rest"))
             before = lies_at(os.path.join(disk, "out"))
             calls.said("a full disk", calls.run(["still", "recipe", "disk/out"], room), 2, "no 22", "disk/out", "cannot be written", "No space left")
             kept(calls, "a full disk", disk, "out", before)

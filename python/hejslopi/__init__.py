@@ -17,8 +17,9 @@ from .explaining import explain
 from .library import LibraryError
 from .refusals import MEANINGS, Refusal
 from .values import Mistake
+from .version import VERSION
 
-__version__ = "0.1.0"
+__version__ = VERSION
 
 __all__ = [
     "FilteredFile", "FilteredPlane", "LibraryError", "MEANINGS", "Mistake", "Recipe", "Refusal", "Still",

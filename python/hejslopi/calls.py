@@ -7,6 +7,7 @@ from typing import Any, NamedTuple, Tuple, Union
 
 from . import faults
 from .library import call
+from .messages import shown
 from .refusals import OF_RECIPES, Refusal
 from .stage_bytes import read_stages
 
@@ -121,12 +122,15 @@ def read_still(still: BytesLike) -> Still:
 
 def write_still(width: int, height: int, channels: int, raster: BytesLike) -> bytes:
     """A still as a file's bytes: header and raster."""
+    given = shown(width), shown(height), shown(channels)
     width, height, channels = size("width", width), size("height", height), size("channels", channels)
     raster, result = taken("raster", raster), results(1)
     # What is going to be refused for another reason is lent nothing.
     right = are_sides(width, height) and channels in (1, 3) and len(raster) == width * height * channels
     out = room(file_length(width, height, channels) if right else 0)
-    done(call("hejslopi_write_still", width, height, channels, raster, out, result))
+    number = call("hejslopi_write_still", width, height, channels, raster, out, result)
+    if number:
+        raise Refusal(number, "found a picture of %s by %s, channels: %s, samples: %d" % (*given, len(raster)))
     return ctypes.string_at(out, result[0])
 
 
@@ -139,14 +143,15 @@ def read_recipe(recipe: BytesLike) -> Recipe:
 
 def filter_plane(plane: BytesLike, width: int, height: int, recipe: BytesLike) -> FilteredPlane:
     """A plane of width times height samples, row by row, filtered by a recipe of one stage."""
+    given = shown(width), shown(height)
     plane, recipe = taken("plane", plane), taken("recipe", recipe)
     width, height = size("width", width), size("height", height)
     stages = read_recipe(recipe).stages
     right = stages == 1 and are_sides(width, height) and len(plane) == width * height
     out, result = room(width * height if right else 0), results(1)
-    number = call("hejslopi_filter_plane", recipe, width, height, plane, *lent(recipe if right else b"", width, height if right else 0), out, result)
+    number = call("hejslopi_filter_plane", recipe, width, height, plane, *(lent(recipe, width, height) if right else lent(b"", 0, 0)), out, result)
     if number:
-        raise Refusal(number, "found %d stages, %d by %d, %d samples" % (stages, width, height, len(plane)))
+        raise Refusal(number, "found stages: %d, a plane of %s by %s, samples: %d" % (stages, *given, len(plane)))
     return FilteredPlane(bytes(out), result[0])
 
 

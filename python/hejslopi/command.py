@@ -1,8 +1,4 @@
-"""The command `hejslopi`: recipes made, explained and described, and stills filtered by them.
-
-It ends with 0 only where all was done and said, with 1 for a refusal or a wrong description, with 2 for wrong usage and for what cannot be read, written or
-printed. Whatever is wrong is said in one line on standard error.
-"""
+"""The command `hejslopi`: recipes made, explained and described, and stills filtered by them. `STATUSES` says how it ends."""
 from __future__ import annotations
 
 import json
@@ -12,9 +8,9 @@ from typing import Callable, Dict, List, NamedTuple, Tuple
 
 from . import calls, describing, descriptions, explaining, files, json_text
 from .filtering import about, filter_into
-from .library import LibraryError
 from .many import filter_many
-from .output import DONE, FAILED, INTERRUPTED, Trouble, complain, name_text, prepare, say
+from .output import DONE, FAILED, Trouble, complain, name_text, prepare, say
+from .version import VERSION
 
 Options = Dict[str, str]
 
@@ -26,18 +22,24 @@ class Usage(Exception):
 # ---- what the words do
 
 
+def not_printed_to(target: str) -> None:
+    """A file cannot take both the bytes and the line about them."""
+    if files.is_standard_output(target):
+        raise Usage("%s is the file that standard output goes to" % name_text(target))
+
+
 def make_recipe(words: List[str], options: Options) -> int:
     description, target = words
     if files.same(description, target):
         raise Usage("RECIPE is the description, which would be lost")
+    not_printed_to(target)
     with about(description):
         made = descriptions.encode(json_text.parsed(files.read_whole(description, files.MOST_DESCRIPTION)))
         answer = calls.read_recipe(made.recipe)
     files.write(target, made.recipe)
-    for place, given, held in made.rounded:
-        complain("%s: %s: %s is held as %r, the nearest binary32" % (name_text(description), place, given, held))
+    notes = [complain("%s: %s: %s is held as %r, the nearest binary32" % (name_text(description), *rounded)) for rounded in made.rounded]
     say("stages %d T %d" % answer)
-    return DONE
+    return DONE if all(notes) else FAILED
 
 
 def filter_stills(words: List[str], options: Options) -> int:
@@ -46,6 +48,7 @@ def filter_stills(words: List[str], options: Options) -> int:
     still, recipe, target = words
     if files.same(recipe, target):
         raise Usage("OUT is the recipe, which would be lost")
+    not_printed_to(target)
     say("T %d" % filter_into(still, recipe, files.read(recipe, files.MOST_RECIPE), target))
     return DONE
 
@@ -96,8 +99,8 @@ Filters a still, a P5 or P6 file of up to 8,192 by 8,192, into OUT and prints T,
 With --into, filters each STILL into a file of the same name in FOLDER, which is made if it is missing. A still that is refused does not stop the others.
 A file that was there before is replaced as a whole, or is left as it was.""", filter_stills),
     "explain": Word(("explain RECIPE [--json]",), 1, ("--json",), """\
-Prints what a recipe does: for each stage its kind, its border, how many samples it looks at and at which offsets, the sum and the gain of its weights
-on each axis, and T after it, in 65,536ths and in grey levels; then what T means for a movement limit.
+Prints what a recipe does: for each stage its kind, its border, how many offsets it looks at, from which to which, the sum and the gain of its weights
+on each axis, and T after it, in 65,536ths and in grey levels; then what T means for a movement limit. `~` marks a number that is shortened.
 With --json the same for programs, sums and gains as exact texts.""", explain),
     "describe": Word(("describe RECIPE",), 1, (), """\
 Prints a description of a recipe, in JSON, that gives the same bytes. A weight is shown as it is held.""", describe),
@@ -135,9 +138,11 @@ def parted(word: str, given: List[str]) -> Tuple[List[str], Options]:
             options["--help"] = ""
         elif not item.startswith("-") or item == "-":
             words.append(item)
+        elif name in options:
+            raise Usage("found the option %s twice" % name)
         elif name in WORDS[word].options and not equals:
             options[name] = ""
-        elif name + "=" in WORDS[word].options and (equals or rest):
+        elif name + "=" in WORDS[word].options and (equals or rest and not rest[0].startswith("-")):
             options[name] = value if equals else rest.pop(0)
         else:
             raise Usage("found the option %s" % name_text(item))
@@ -146,8 +151,10 @@ def parted(word: str, given: List[str]) -> Tuple[List[str], Options]:
 
 def run(given: List[str]) -> int:
     """Does what the words say."""
-    if given and given[0] in ("-h", "--help", "help"):
-        say(help_of_all())
+    if given[:1] == ["help"]:
+        given = given[1:] + ["--help"]
+    if given and given[0] in ("-h", "--help", "--version"):
+        say("hejslopi " + VERSION if given[0] == "--version" else help_of_all())
         return DONE
     if not given or given[0] not in WORDS:
         raise Usage("found %s, allowed: %s" % ("the word %s" % name_text(given[0]) if given else "no word", ", ".join(WORDS)))
@@ -174,18 +181,15 @@ def main(given: List[str]) -> int:
         return trouble.status
     except Usage as wrong:
         complain("%s; `hejslopi --help` says more" % wrong)
-    except KeyboardInterrupt:
-        complain("interrupted")
-        return INTERRUPTED
-    except (LibraryError, NotImplementedError) as wrong:
-        complain(str(wrong))
+    except (OSError, NotImplementedError) as wrong:
+        complain(name_text(str(wrong)))
     except Exception as wrong:
-        complain("this should not happen: %s: %s" % (type(wrong).__name__, " ".join(str(wrong).split())))
+        complain("this should not happen: %s: %s" % (type(wrong).__name__, name_text(str(wrong))))
     return FAILED
 
 
 def entry() -> None:
-    """The command. One that is ended from outside removes what it has half written."""
-    for number in (signal.SIGTERM, signal.SIGHUP):
-        signal.signal(number, lambda number, _: sys.exit(128 + number))
+    """The command. Ctrl-C ends it on the spot, also while the library works, unless a file is being written."""
+    if signal.getsignal(signal.SIGINT) is signal.default_int_handler:
+        signal.signal(signal.SIGINT, signal.SIG_DFL)
     sys.exit(main(sys.argv[1:]))

@@ -107,7 +107,7 @@ def stage_of(number: int, given: Any, rounded: List[Rounded]) -> bytes:
         for name, held in AXIS_VALUES[kind](place_of(number, axis), axis, given[axis], rounded).items():
             values[name, axis] = held
     if kind == "rank":
-        samples = area(given["across"], given["down"])
+        samples = area(*(int(values["radius", axis][0]) for axis in AXES))
         values["position", ""] = [position_of(place + ", position", given["position"], samples)]
     return stage_bytes(kind, values)
 

@@ -5,7 +5,7 @@ from typing import Any, Dict, List
 
 from .calls import BytesLike, read_recipe, taken
 from .describing import stage_described, stages_of
-from .kernels import fraction_text, gain, weights, window
+from .kernels import fraction_text, gain, short_text, weights, window
 from .stage_bytes import AXES, Stage
 
 UNITS = 65536
@@ -64,9 +64,14 @@ def explain(recipe: BytesLike) -> Dict[str, Any]:
 # ---- for people
 
 
-def levels_text(tolerance: int) -> str:
-    """Grey levels to four decimals, never less than they are."""
-    return "%.4f" % (-(-tolerance * 10000 // UNITS) / 10000)
+def levels_text(units: int) -> str:
+    """Grey levels to four decimals, rounded up: T bounds from above."""
+    return "%.4f" % (-(-units * 10000 // UNITS) / 10000)
+
+
+def levels_below(units: int) -> str:
+    """Grey levels to four decimals, rounded down: what is said of limits below it stays true."""
+    return "%.4f" % (units * 10000 // UNITS / 10000)
 
 
 def axis_text(axis: Dict[str, Any]) -> str:
@@ -78,7 +83,7 @@ def axis_text(axis: Dict[str, Any]) -> str:
 def row(stage: Dict[str, Any]) -> List[str]:
     kind = "rank %d of %d" % (stage["position"], stage["window"]) if "position" in stage else stage["kind"]
     border = "constant %d" % stage["border_value"] if stage["border"] == "constant" else stage["border"]
-    axes = [text for axis in AXES for text in (axis_text(stage[axis]), stage[axis]["sum"] or "-", stage[axis]["gain"] or "-")]
+    axes = [text for axis in AXES for text in (axis_text(stage[axis]), *(short_text(stage[axis][name] or "-") for name in ("sum", "gain")))]
     return [str(stage["stage"]), kind, border, *axes, str(stage["tolerance"]), levels_text(stage["tolerance"])]
 
 
@@ -91,12 +96,9 @@ def meaning_of(tolerance: int) -> List[str]:
         return ["T is %d, all 255 grey levels: it says nothing about a sample." % tolerance]
     if tolerance == 0:
         return ["T is 0: every sample is the exact result."]
-    least = -(-2 * tolerance // UNITS)
-    return [
-        "No sample is further than T/65,536 from the exact result: %d/65,536, %s grey levels." % (tolerance, levels_text(tolerance)),
-        "Between two stills filtered by it, no sample can surely be still under a movement limit below 2 T: %s grey levels, so %d as a whole number."
-        % (levels_text(2 * tolerance), least),
-    ]
+    within = "No sample is further than T/65,536 from the exact result: %d/65,536, %s grey levels." % (tolerance, levels_text(tolerance))
+    still = "Between two stills filtered by it, no sample can surely be still under a movement limit below 2 T/65,536: %s grey levels, " % levels_below(2 * tolerance)
+    return [within, still + ("so under none." if 2 * tolerance > MOST_TOLERANCE else "so %d as a whole number." % -(-2 * tolerance // UNITS))]
 
 
 def explanation_text(explained: Dict[str, Any]) -> str:

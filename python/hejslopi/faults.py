@@ -11,7 +11,7 @@ from typing import Iterable, Optional, Tuple
 from .kernels import fraction_text, gain, window
 from .library import call
 from .messages import found, place_of
-from .stage_bytes import AXES, MOST_GAIN, MOST_OFFSET, MOST_RADIUS, MOST_STAGES, MOST_TAPS, BORDER_NAMES, KIND_NAMES, Field, Stage, read_stages
+from .stage_bytes import AXES, MOST_GAIN, MOST_OFFSET, MOST_RADIUS, MOST_STAGES, MOST_TAPS, BORDER_NAMES, KIND_NAMES, REAL_WEIGHTS, Field, Stage, read_stages
 
 STAGE_COUNT, CUT, TRAILING, GAIN = 10, 11, 12, 17
 
@@ -34,7 +34,7 @@ ALLOWED = {
     "taps": lambda stage: "1 to %d" % MOST_TAPS,
     "divisor": lambda stage: "1 to 65,535",
     "offset": lambda stage: "-%d to %d, each above the one before it" % (MOST_OFFSET, MOST_OFFSET),
-    "weight": lambda stage: "0, or 2^-12 to 4 in size",
+    "weight": lambda stage: REAL_WEIGHTS,
     "radius": lambda stage: "0 to %d" % MOST_RADIUS,
     "position": lambda stage: "1 to %d, the samples of its window" % window(stage),
 }
@@ -72,7 +72,7 @@ def in_recipe(recipe: bytes, number: int) -> str:
     if number == STAGE_COUNT:
         return found("byte 1", "%d stages" % recipe[0], "1 to %d" % MOST_STAGES)
     if number == TRAILING:
-        return "its last stage ends with byte %d, and it has %d" % (read_stages(recipe)[-1].fields[-1].end, len(recipe))
+        return "its last stage ends with byte %d, and more follow" % read_stages(recipe)[-1].fields[-1].end
     at_fault = field_at_fault(recipe)
     if at_fault is None:
         return ""
@@ -86,8 +86,8 @@ def in_recipe(recipe: bytes, number: int) -> str:
 
 # ---- stills
 
-GAP = rb"(?:[ \t\n\v\f\r]|#[^\n\r]*[\n\r])+"
-HEADER = re.compile(rb"P([56])" + GAP + rb"(\d{1,20})" + GAP + rb"(\d{1,20})" + GAP + rb"(\d{1,20})(?:#[^\n\r]*)?[ \t\n\v\f\r]")
+GAP = rb"(?:[ \t\n\r]|#[^\n]*\n)+"
+HEADER = re.compile(rb"P([56])" + 2 * (GAP + rb"([0-9]{1,20})") + GAP + rb"([0-9]{1,20})[ \t\n\r]")
 
 # A longer header is left alone: these words are not worth reading a whole file of comments.
 LONGEST_HEADER = 4096

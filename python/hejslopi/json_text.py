@@ -2,6 +2,7 @@
 from __future__ import annotations
 
 import json
+from collections import Counter
 from decimal import Decimal
 from typing import Any, List, Tuple, Union
 
@@ -19,8 +20,7 @@ class Object(dict):
 
     def __init__(self, pairs: List[Tuple[str, Any]]) -> None:
         super().__init__(pairs)
-        keys = [key for key, _ in pairs]
-        self.twice = [key for key in self if keys.count(key) > 1]
+        self.twice = [key for key, count in Counter(key for key, _ in pairs).items() if count > 1]
 
 
 def number(text: str) -> Union[int, Decimal]:
@@ -33,17 +33,13 @@ def number(text: str) -> Union[int, Decimal]:
         raise Mistake("the description", shown(text), "a number that can be held") from None
 
 
-def no_number(text: str) -> None:
-    raise Mistake("the description", text, "numbers of JSON, and this is none")
-
-
 def parsed(data: bytes) -> Any:
-    """What a text in JSON says."""
+    """What a text in JSON says. NaN and Infinity, which are none, are refused where they stand: no value may be one of them."""
     if data.startswith(BYTE_ORDER_MARKS):
         raise Mistake("the description", "a byte order mark at its beginning", "JSON in UTF-8 without one")
     try:
         text = data.decode("utf-8")
-        return json.loads(text, object_pairs_hook=Object, parse_int=number, parse_float=number, parse_constant=no_number)
+        return json.loads(text, object_pairs_hook=Object, parse_int=number, parse_float=number, parse_constant=Decimal)
     except UnicodeDecodeError as wrong:
         raise Mistake("byte %d" % (wrong.start + 1), "%02X" % data[wrong.start], "JSON in UTF-8") from None
     except json.JSONDecodeError as wrong:

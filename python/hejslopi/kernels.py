@@ -18,7 +18,7 @@ def window(stage: Stage) -> int:
 
 
 def weights(stage: Stage, axis: str) -> List[Fraction]:
-    """The weights of an axis as they are held. Of a box and a binomial they are known without their bytes; a rank has none."""
+    """The weights of an axis as they are held; of a binomial and of a box, which hold none, their sum alone, 1; of a rank none."""
     if stage.kind in ("binomial", "box"):
         return [Fraction(1)]
     divisor = int(stage.values.get(("divisor", axis), [1])[0])
@@ -30,7 +30,11 @@ def gain(stage: Stage, axis: str) -> Fraction:
 
 
 def fraction_text(value: Fraction) -> str:
-    """A fraction exactly: as a decimal where that is exact in a float, else as a ratio."""
-    if value.denominator == 1:
-        return str(value.numerator)
-    return repr(float(value)) if value.denominator & (value.denominator - 1) == 0 else "%d/%d" % (value.numerator, value.denominator)
+    """A fraction exactly, as `Fraction` reads it: as a decimal where one of a few digits is exact, else as a ratio."""
+    decimal = repr(float(value))
+    return decimal.replace(".0", "") if value.denominator == 1 else decimal if Fraction(decimal) == value else str(value)
+
+
+def short_text(value: str) -> str:
+    """A fraction's text for a table: one that is long as a decimal that is near to it."""
+    return value if len(value) <= 8 else "~%.5f" % Fraction(value)

@@ -7,7 +7,9 @@ from __future__ import annotations
 
 import ctypes
 import os
+import shutil
 import subprocess
+import tempfile
 import threading
 from typing import Any, Optional
 
@@ -30,22 +32,19 @@ def folder() -> str:
 
 
 def link(archive: str, shared: str) -> None:
-    """Makes a shared object of a static library: under another name first, so that nobody loads half of one."""
-    made = "%s.%d" % (shared, os.getpid())
-    command = ["cc", "-shared", "-o", made, "-Wl,--whole-archive", archive, "-Wl,--no-whole-archive"]
-    try:
-        if not os.access(os.path.dirname(made), os.W_OK):
-            raise LibraryError("%s cannot be made: its folder is closed to writing" % shared)
-        done = subprocess.run(command, stdin=subprocess.DEVNULL, stdout=subprocess.PIPE, stderr=subprocess.STDOUT, universal_newlines=True)
-        if done.returncode != 0:
-            lines = done.stdout.strip().splitlines() or ["cc ended with %d" % done.returncode]
-            raise LibraryError("%s cannot be made: %s" % (shared, lines[-1]))
+    """Makes a shared object of a static library: in a folder of its own first, so that nobody loads half of one."""
+    if not os.access(os.path.dirname(shared), os.W_OK):
+        raise LibraryError("%s cannot be made: its folder is closed to writing" % shared)
+    if shutil.which("cc") is None:
+        raise LibraryError("%s cannot be made: the C compiler cc is not to be found, and is needed once" % shared)
+    with tempfile.TemporaryDirectory(dir=os.path.dirname(shared), prefix=".hejslopi-") as room:
+        made = os.path.join(room, SHARED)
+        command = ["cc", "-shared", "-o", made, "-Wl,--whole-archive", archive, "-Wl,--no-whole-archive"]
+        done = subprocess.run(command, stdin=subprocess.DEVNULL, stdout=subprocess.PIPE, stderr=subprocess.STDOUT)
+        if done.returncode != 0 or not os.path.exists(made):
+            lines = done.stdout.decode("utf-8", "replace").strip().splitlines() or ["cc ended with status %d" % done.returncode]
+            raise LibraryError("%s cannot be made: %s" % (shared, lines[0]))
         os.replace(made, shared)
-    except FileNotFoundError:
-        raise LibraryError("%s cannot be made: the C compiler cc is not to be found, and is needed once" % shared) from None
-    finally:
-        if os.path.exists(made):
-            os.remove(made)
 
 
 def missing(archive: str) -> str:
@@ -91,6 +90,9 @@ def call(name: str, *arguments: Any) -> int:
         else:
             held = ctypes.c_char_p(argument) if isinstance(argument, bytes) else argument
             flat += [held, ctypes.c_size_t(len(argument))]
-    function = getattr(loaded(), name)
+    try:
+        function = getattr(loaded(), name)
+    except AttributeError:
+        raise LibraryError("the library in %s is another one: it has no %s" % (folder(), name)) from None
     function.restype = ctypes.c_uint32
     return function(*flat, arguments[-1])

@@ -2,7 +2,6 @@
 from __future__ import annotations
 
 import os
-import shutil
 import sys
 from typing import List
 
@@ -37,10 +36,12 @@ class Bar(Lines):
         self.draw()
 
     def draw(self) -> None:
-        numbers = " %d of %d" % (self.tried, self.count)
-        width = max(min(shutil.get_terminal_size().columns - len(numbers) - 3, 60), 1)
-        full = width * self.tried // max(self.count, 1)
-        put(self.WIPE + "[" + "#" * full + "." * (width - full) + "]" + numbers)
+        numbers = "%d of %d" % (self.tried, self.count)
+        columns = os.get_terminal_size(sys.stdout.fileno()).columns or 80
+        width = min(columns - len(numbers) - 4, 60)
+        full = width * self.tried // self.count
+        # Where a bar does not fit, the numbers do, or nothing: a line that breaks could not be wiped.
+        put(self.WIPE + ("[%s%s] %s" % ("#" * full, "." * (width - full), numbers) if width > 4 else numbers[:columns - 1]))
 
     def filtered(self, target: str, tolerance: int) -> None:
         self.tried += 1
@@ -60,15 +61,13 @@ def targets_of(recipe: str, stills: List[str], folder: str) -> List[str]:
     """Where each filtered still goes: into the folder, under its own name. None may be lost by it, neither an input nor another's output."""
     targets = [os.path.join(folder, os.path.basename(still)) for still in stills]
     inputs = {os.path.realpath(path) for path in [recipe] + stills}
-    seen = set()
-    for still, target in zip(stills, targets):
-        if not os.path.basename(still):
-            raise Trouble(FAILED, "%s: cannot be read: Is a directory" % name_text(still))
+    outputs = set()
+    for target in targets:
         if os.path.realpath(target) in inputs:
             raise Trouble(FAILED, "%s: is one of the files to be read, and would be written over" % name_text(target))
-        if target in seen:
-            raise Trouble(FAILED, "%s: two of the stills have this name, and one would be lost" % name_text(target))
-        seen.add(target)
+        if os.path.realpath(target) in outputs:
+            raise Trouble(FAILED, "%s: two of the stills would be written there, and one would be lost" % name_text(target))
+        outputs.add(os.path.realpath(target))
     return targets
 
 
@@ -78,7 +77,7 @@ def make_folder(folder: str) -> None:
         if not os.path.isdir(folder):
             os.mkdir(folder)
     except OSError as wrong:
-        raise files.cannot(folder, "made a folder", wrong.strerror) from None
+        raise files.cannot(folder, "made a folder", wrong) from None
 
 
 def filter_many(recipe: str, stills: List[str], folder: str) -> int:

@@ -3,6 +3,7 @@ from __future__ import annotations
 
 import difflib
 import json
+from decimal import Decimal
 from typing import Any, Iterable
 
 # Of a longer value a message has the beginning.
@@ -27,7 +28,12 @@ def shown(value: Any) -> str:
         return "a list"
     if isinstance(value, int) and value.bit_length() > 200:
         return "a number of %d bits" % value.bit_length()
-    text = json.dumps(value) if value is None or isinstance(value, (str, bool)) else " ".join(str(value).split())
+    if isinstance(value, Decimal) and value.is_finite() and abs(value.adjusted()) < 20:
+        text = format(value, "f")
+    elif value is None or isinstance(value, (str, bool)):
+        text = json.dumps(value)
+    else:
+        text = " ".join(str(value).split())
     return text if len(text) <= LONGEST else text[:LONGEST] + ".."
 
 

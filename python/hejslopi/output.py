@@ -5,7 +5,7 @@ import os
 import sys
 from typing import Any
 
-DONE, REFUSED, FAILED, INTERRUPTED = 0, 1, 2, 130
+DONE, REFUSED, FAILED = 0, 1, 2
 
 
 class Trouble(Exception):
@@ -18,7 +18,7 @@ class Trouble(Exception):
 
 def name_text(path: str) -> str:
     """A path in a message: as it is, with `?` for what would break the line or cannot be shown."""
-    return "".join(letter if letter.isprintable() else "?" for letter in path)
+    return "".join(letter if letter.isprintable() else "?" for letter in path) or '""'
 
 
 def silence(stream: Any) -> None:
@@ -42,15 +42,17 @@ def say(text: str) -> None:
     put(text + "\n")
 
 
-def complain(text: str) -> None:
-    """A line on standard error. Where that is closed or full, the status alone has to tell."""
+def complain(text: str) -> bool:
+    """A line on standard error, and whether it got there. Where that is closed or full, the status alone has to tell."""
     if sys.stderr is None:
-        return
+        return False
     try:
         sys.stderr.write("hejslopi: %s\n" % text)
         sys.stderr.flush()
     except OSError:
         silence(sys.stderr)
+        return False
+    return True
 
 
 def prepare() -> None:

@@ -7,12 +7,12 @@ from fractions import Fraction
 from typing import Any, List, NamedTuple
 
 from .messages import shown
+from .stage_bytes import REAL_WEIGHTS
 from .values import Mistake
 
-ALLOWED = "0, or 2^-12 to 4 in size"
-
-# Between these the library judges the weight that is held. Outside of them no rounding leads to an allowed one, and one so small might become 0.
+# Outside of these no rounding leads to an allowed weight, and none has to be tried.
 FAR_BELOW, FAR_ABOVE = Decimal(2) ** -13, 8
+LEAST, MOST = 2.0 ** -12, 4.0
 
 
 class Rounded(NamedTuple):
@@ -29,14 +29,21 @@ def nearest_binary32(value: Fraction, first: float) -> float:
     return min(near)[2]
 
 
+def is_near(value: Any) -> bool:
+    """Whether a number is 0, or of a size from which an allowed weight is not far."""
+    try:
+        return value == 0 or FAR_BELOW < value < FAR_ABOVE or -FAR_ABOVE < value < -FAR_BELOW
+    except ArithmeticError:
+        return False
+
+
 def real_weight(place: str, value: Any, rounded: List[Rounded]) -> float:
-    """A weight as a binary32. One that is far outside what is allowed, or would become 0, is not rounded but refused."""
-    if isinstance(value, bool) or not isinstance(value, (int, float, Decimal)):
-        raise Mistake(place, shown(value), "a number: " + ALLOWED)
-    # What is not a number is not equal to itself, and cannot be compared.
-    if value != value or value and not (FAR_BELOW < value < FAR_ABOVE or -FAR_ABOVE < value < -FAR_BELOW):
-        raise Mistake(place, shown(value), ALLOWED)
+    """A weight as a binary32. What was given counts as held where it is, as far as a float tells: so a weight as `describe` shows it is not rounded."""
+    if isinstance(value, bool) or not isinstance(value, (int, float, Decimal)) or not is_near(value):
+        raise Mistake(place, shown(value), REAL_WEIGHTS)
     held = float(value) if value == 0 else nearest_binary32(Fraction(value), float(value))
-    if Fraction(held) != Fraction(value):
+    if held and not LEAST <= abs(held) <= MOST:
+        raise Mistake(place, shown(value), REAL_WEIGHTS)
+    if float(value) != held:
         rounded.append(Rounded(place, shown(value), held))
     return held

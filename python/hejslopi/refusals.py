@@ -1,6 +1,8 @@
 """The refusals of the library by their numbers, and what each means."""
 from __future__ import annotations
 
+from typing import Tuple, Type
+
 MEANINGS = {
     1: "the file does not begin with P5 or P6",
     2: "the header lacks a separator, a number or the whitespace byte at its end",
@@ -33,3 +35,7 @@ class Refusal(Exception):
         self.meaning = MEANINGS.get(number, "unknown")
         self.where = where
         super().__init__("refused with %d: %s" % (number, self.meaning) + (" (%s)" % where if where else ""))
+
+    def __reduce__(self) -> Tuple[Type[Refusal], Tuple[int, str]]:
+        """A refusal can be sent from one process to another."""
+        return Refusal, (self.number, self.where)

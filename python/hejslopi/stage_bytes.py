@@ -12,6 +12,7 @@ KIND_NAMES = {number: name for name, number in KINDS.items()}
 BORDER_NAMES = {number: name for name, number in BORDERS.items()}
 
 MOST_STAGES, MOST_TAPS, MOST_RADIUS, MOST_OFFSET, MOST_GAIN = 8, 31, 15, 15, 4
+REAL_WEIGHTS = "0, or 2^-12 to 4 in size"
 
 
 class Item(NamedTuple):

@@ -2,7 +2,7 @@
 from __future__ import annotations
 
 import operator
-from typing import Any, Dict, Iterable
+from typing import Any, Dict, Iterable, Tuple, Type
 
 from .messages import close_to, found, shown
 
@@ -12,6 +12,11 @@ class Mistake(ValueError):
 
     def __init__(self, place: str, value: str, allowed: str) -> None:
         super().__init__(found(place, value, allowed))
+        self.parts = place, value, allowed
+
+    def __reduce__(self) -> Tuple[Type[Mistake], Tuple[str, str, str]]:
+        """A mistake can be sent from one process to another."""
+        return Mistake, self.parts
 
 
 def one_of(place: str, value: Any, words: Iterable[str]) -> str:
@@ -31,7 +36,7 @@ def whole(place: str, value: Any, least: int, most: int) -> int:
     return number
 
 
-def keyed(place: str, given: Any, needed: Iterable[str], optional: Iterable[str] = ()) -> Dict[str, Any]:
+def keyed(place: str, given: Any, needed: Tuple[str, ...], optional: Tuple[str, ...] = ()) -> Dict[str, Any]:
     """An object with all of the needed keys, each once, and no others but optional ones."""
     allowed = [*needed, *optional]
     if not isinstance(given, dict):
@@ -43,5 +48,5 @@ def keyed(place: str, given: Any, needed: Iterable[str], optional: Iterable[str]
             raise Mistake(place, "the key %s" % shown(key), ", ".join(allowed) + close_to(key, allowed))
     for key in needed:
         if key not in given:
-            raise Mistake(place, "no key %s" % shown(key), "%s, all of them" % ", ".join(needed))
+            raise Mistake(place, "no key %s" % shown(key), ", ".join(needed) + (", all of them" if len(needed) > 1 else ""))
     return given

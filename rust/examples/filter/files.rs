@@ -22,6 +22,11 @@ pub fn same(one: &Path, other: &Path) -> bool {
     matches!((identity(one), identity(other)), (Ok(a), Ok(b)) if a == b)
 }
 
+/// Whether a path leads to the regular file that standard output goes to: a line printed there would be lost with the old file.
+pub fn takes_output(path: &Path) -> bool {
+    path.is_file() && same(path, Path::new("/dev/stdout"))
+}
+
 /// Writes a file whole, or leaves it as it was. What is no file, such as a device or a pipe, is written to as it is.
 pub fn write(path: &Path, bytes: &[u8]) -> io::Result<()> {
     match fs::metadata(path) {

@@ -69,6 +69,9 @@ fn main() -> ExitCode {
     if files::same(recipe.as_ref(), out.as_ref()) {
         return stopped(&about(out, "is the recipe"));
     }
+    if files::takes_output(out.as_ref()) {
+        return stopped(&about(out, "is the file that standard output goes to"));
+    }
     let done = filtered(still, recipe, out);
     let line = match &done {
         Ok(line) => line.clone(),
