@@ -7,6 +7,7 @@ import time
 
 import cargo_build
 import commands
+import filter_script
 import front_ends
 import program
 import readme
@@ -18,7 +19,7 @@ from tally import Tally, Words
 GROUPS = {
     "program": ("the program on every vector, with out in every state", lambda tally: program.try_vectors(tally, program.to_try())),
     "files": ("the program with its files in every state", lambda tally: program.try_files(tally, program.to_try())),
-    "filter": ("./filter", scripts.try_filter),
+    "filter": ("./filter", filter_script.try_filter),
     "fronts": ("filtering a still from the shell, Python, Rust and C", front_ends.try_front_ends),
     "commands": ("the command hejslopi", commands.try_commands),
     "readme": ("README's examples", readme.try_readme),
