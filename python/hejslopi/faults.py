@@ -49,7 +49,7 @@ def answer(recipe: bytes) -> int:
 
 
 def field_at_fault(recipe: bytes) -> Optional[Tuple[Stage, Field]]:
-    """The field that makes the library refuse. Fields are tested in byte order, so a recipe that is cut behind one is told to be cut, unless that field is wrong."""
+    """The field that makes the library refuse. A recipe is tested byte after byte, so one that is cut behind a field is told to be cut, unless that field is wrong."""
     for stage in read_stages(recipe):
         for field in stage.fields:
             if field.value is None or answer(recipe[:field.end]) != CUT:

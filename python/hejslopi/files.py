@@ -14,7 +14,7 @@ from .output import FAILED, Trouble, name_text
 
 # The longest still has 8,192 by 8,192 samples of three channels; the rest is for its header's comments.
 MOST_STILL = 3 * 8192 * 8192 + (1 << 20)
-# No recipe that is accepted is longer than 2,521 bytes, and fields are tested in byte order: what is behind these bytes cannot change an answer.
+# No recipe that is accepted is longer than 2,521 bytes, and fields are tested in the order of their bytes: what is behind these cannot change an answer.
 MOST_RECIPE = 65536
 MOST_DESCRIPTION = 1 << 20
 
