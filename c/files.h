@@ -6,6 +6,7 @@
 #include <errno.h>
 #include <fcntl.h>
 #include <limits.h>
+#include <signal.h>
 #include <stdint.h>
 #include <stdio.h>
 #include <stdlib.h>
@@ -44,11 +45,12 @@ static int same_file(const char *one, const char *other)
     return stat(one, &a) == 0 && stat(other, &b) == 0 && a.st_dev == b.st_dev && a.st_ino == b.st_ino;
 }
 
-/* Whether a path leads to the regular file that standard output goes to: a line printed there would be lost with the old file. */
+/* Whether a path leads to where standard output goes. A line printed there would be lost with the old file, or stand behind the samples;
+ * a terminal and the like may have both. */
 static int takes_output(const char *path)
 {
     struct stat file, output;
-    return stat(path, &file) == 0 && S_ISREG(file.st_mode) && fstat(STDOUT_FILENO, &output) == 0
+    return stat(path, &file) == 0 && !S_ISCHR(file.st_mode) && fstat(STDOUT_FILENO, &output) == 0
         && file.st_dev == output.st_dev && file.st_ino == output.st_ino;
 }
 
@@ -147,7 +149,7 @@ static mode_t usual_mode(void)
 }
 
 /* Fills a new file of this mode, whose name is made from `pattern`, and moves it to its place. */
-static int replace(const char *place, char *pattern, mode_t mode, struct bytes bytes)
+static int replace_now(const char *place, char *pattern, mode_t mode, struct bytes bytes)
 {
     const int file = mkstemp(pattern);
     if (file < 0)
@@ -160,6 +162,19 @@ static int replace(const char *place, char *pattern, mode_t mode, struct bytes b
         error = errno;
     if (error)
         unlink(pattern);
+    return error;
+}
+
+/* Does so without heeding what would end the program: else the new file might be left behind. */
+static int replace(const char *place, char *pattern, mode_t mode, struct bytes bytes)
+{
+    static const int ends[] = { SIGHUP, SIGINT, SIGTERM };
+    void (*before[3])(int);
+    for (int k = 0; k < 3; k++)
+        before[k] = signal(ends[k], SIG_IGN);
+    const int error = replace_now(place, pattern, mode, bytes);
+    for (int k = 0; k < 3; k++)
+        signal(ends[k], before[k]);
     return error;
 }
 

@@ -2,7 +2,7 @@
  * standard error. It ends with 0 when done, with 1 when the library refuses, and with 2 when it is called wrongly or when a file
  * or standard output fails. OUT is written whole, or left as it was.
  *
- *     cc -I include c/filter.c target/staticlib/libcapi.a -o filter
+ *     cc -I include c/filter.c target/staticlib/libcapi.a -o c-filter
  */
 #define _POSIX_C_SOURCE 200809L
 #include "files.h"
@@ -44,6 +44,16 @@ static int failed(const char *path, const char *deed, const char *reason)
     if (printed(printf("no %d\n", HEJSLOPI_FILE_UNREAD))) {
         about(path);
         fprintf(stderr, "cannot be %s: %s\n", deed, reason);
+    }
+    return FAILED;
+}
+
+/* Tells of a still that there is no memory for. */
+static int unheld(const char *path)
+{
+    if (printed(printf("no %d\n", HEJSLOPI_ROOM))) {
+        about(path);
+        fputs("there is not enough memory\n", stderr);
     }
     return FAILED;
 }
@@ -124,6 +134,8 @@ static int answer(char **words, struct bytes still, struct bytes recipe)
     int error, status;
     if (refusal >= HEJSLOPI_STAGE_COUNT && refusal <= HEJSLOPI_POSITION)
         status = refused(words[RECIPE], refusal, faulty_stage(recipe));
+    else if (refusal == HEJSLOPI_ROOM)
+        status = unheld(words[STILL]);
     else if (refusal != HEJSLOPI_DONE)
         status = refused(words[STILL], refusal, 0);
     else if ((error = write_file(words[OUT], out)) != 0)
@@ -144,7 +156,7 @@ static int run(char **words)
     if ((error = read_file(words[STILL], STILL_MOST + 1, &still)) != 0)
         status = failed(words[STILL], "read", strerror(error));
     else if (still.length > STILL_MOST)
-        status = failed(words[STILL], "read", "it is longer than any still");
+        status = failed(words[STILL], "read", "it is longer than 202,375,168 bytes");
     else if ((error = read_file(words[RECIPE], RECIPE_MOST, &recipe)) != 0)
         status = failed(words[RECIPE], "read", strerror(error));
     else
@@ -167,8 +179,8 @@ int main(int count, char **words)
         fputs("usage: filter STILL RECIPE OUT\n", stderr);
         return FAILED;
     }
-    const char *wrong = same_file(words[RECIPE], words[OUT]) ? "is the recipe"
-        : takes_output(words[OUT]) ? "is the file that standard output goes to" : NULL;
+    const char *wrong = same_file(words[RECIPE], words[OUT]) ? "is the recipe, which would be lost"
+        : takes_output(words[OUT]) ? "is where standard output goes, and the line with it" : NULL;
     if (wrong) {
         about(words[OUT]);
         fprintf(stderr, "%s\n", wrong);

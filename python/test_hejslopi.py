@@ -6,6 +6,7 @@ import resource
 import subprocess
 import sys
 import unittest
+from decimal import Decimal
 from fractions import Fraction
 
 import hejslopi
@@ -220,6 +221,10 @@ class Recipes(unittest.TestCase):
         middle = (low + Fraction(1, 2)) * step
         self.assertEqual(Fraction(reals.nearest_binary32(middle, float(middle))), low * step)
         self.assertEqual(Fraction(reals.nearest_binary32(middle + Fraction(1, 1 << 90), float(middle))), (low + 1) * step)
+        typed = Decimal(middle.numerator) / middle.denominator + Decimal("1e-27")
+        made = descriptions.encode([{"kind": "reals", "across": {"here": typed}, "down": {"here": 1}}])
+        self.assertEqual(made.recipe[8:12], bytes.fromhex("3F 80 00 01"))
+        self.assertEqual(len(made.rounded), 1)
 
     def test_descriptions_are_as_held(self):
         """A recipe that something else wrote: an unusual border value, a negative zero, weights with all their digits."""
@@ -283,7 +288,7 @@ class Faults(unittest.TestCase):
         return 0
 
     def test_stills(self):
-        for still, where in ((b"P2\n", "it begins with 'P2'"), (b"P", "it has 1 bytes"), (b"P5 0 7 255 ", "found 0 by 7"), (b"P5 1 1 65535 aa", "found 65535"),
+        for still, where in ((b"P2\n", "it begins with 'P2'"), (b"P", "it begins with 'P'"), (b"", "it has no bytes"), (b"P5 0 7 255 ", "found 0 by 7"), (b"P5 1 1 65535 aa", "found 65535"),
                              (b"P6\n#c\n1 2\n255\nabc", "found 3, needed for 1 by 2: 6"), (b"P5\n1 1\n255\nab", "found 2, needed for 1 by 1: 1"), (b"P5", ""),
                              # Only LF ends a comment.
                              (b"P5#a\r9 9 9 \n3 1\n255\nab", "found 2, needed for 3 by 1: 3"), (b"P5#a\r0 0 255 \n8193 1\n255\nab", "found 8193 by 1")):

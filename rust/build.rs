@@ -23,7 +23,8 @@ fn linked() -> Result<(), String> {
         env::var_os("CARGO_MANIFEST_DIR")
             .ok_or("CARGO_MANIFEST_DIR is not set: cargo runs this")?,
     );
-    let library = match env::var_os("HEJSLOPI_LIB_DIR") {
+    let named = env::var_os("HEJSLOPI_LIB_DIR").filter(|folder| !folder.is_empty());
+    let library = match named {
         Some(folder) => given(&package.join(folder))?,
         None => built(package.parent().ok_or("the package stands in no folder")?)?,
     };

@@ -62,8 +62,8 @@ def kept(tally, where, room, name):
 def wrong_descriptions(tally):
     """Each ends in its line, and the old recipe stays."""
     with folders.fresh_folder() as room:
-        written(os.path.join(room, "recipe"), OLD)
         for text, words in descriptions.WRONG:
+            written(os.path.join(room, "recipe"), OLD)
             where = "the description %s" % (text[:60],)
             written(os.path.join(room, "wrong.json"), text if isinstance(text, bytes) else text.encode())
             one_line(tally, where, run(["recipe", "wrong.json", "recipe"], room), 1, "wrong.json: ", *words)
@@ -83,6 +83,8 @@ def recipes_made(tally):
         answer = run(["recipe", "real.json", "real"], room)
         tally.equal("a weight that is rounded", (answer.status, answer.stderr), (0, note))
         tally.equal("a weight that is rounded: bytes", bytes_of(os.path.join(room, "real"))[9:17], bytes.fromhex("3D CC CC CD 3E 80 00 00"))
+        written(os.path.join(room, "close.json"), (descriptions.REALS % '{"here": 0.25000000000000000001}').encode())
+        tally.equal("a weight that is rounded by little", run(["recipe", "close.json", "close"], room).stderr.count("is held as 0.25"), 1)
         written(os.path.join(room, "again.json"), run(["describe", "real"], room).stdout.encode())
         tally.equal("a weight as it is described", run(["recipe", "again.json", "again"], room).stderr, "")
         if os.path.exists("/dev/full"):
@@ -118,8 +120,8 @@ def explained(tally):
         tally.equal("explain: a box", rows[2], ["2", "box", "nearest"] + 2 * axis + ["67579", "1.0312"])
         last = answer.stdout.splitlines()[-1]
         tally.equal("explain: the movement limit", ["2 T/65,536: 2.0623 grey levels, so 3 as" in last, answer.status, answer.stderr], [True, 0, ""])
-        tally.equal("explain: ratios", run(["explain", "sharpen"], room).stdout.splitlines()[1].split()[:14],
-                    "1 ratios mirror 3 at -1 to 1 1 1.5 1 at 0 1".split())
+        tally.equal("explain: ratios", run(["explain", "sharpen"], room).stdout.splitlines()[1].split()[:15],
+                    "1 ratios mirror 3 at -1 to 1 1 1.5 1 at 0 1 1".split())
         tally.equal("explain: a rank", run(["explain", "rank"], room).stdout.splitlines()[1].split(),
                     "1 rank 8 of 15 constant 7 3 at -1 to 1 - - 5 at -2 to 2 - - 0 0.0000".split())
         tally.equal("explain: T 0", run(["explain", "rank"], room).stdout.splitlines()[-1], "T is 0: every sample is the exact result.")
@@ -144,7 +146,7 @@ def explained_to_programs(tally, room):
     written(os.path.join(room, "tenth"), bytes.fromhex("01 02 01 00 02 01 00 01 00 3D CC CC CD 3E 80 00 00 3F 80 00 00"))
     sums = [json.loads(run(["explain", name, "--json"], room).stdout)["stages"][0]["across"]["sum"] for name in ("thirds", "tenth")]
     tally.equal("explain --json: exact sums", sums, ["2/3", "46976205/134217728"])
-    tally.equal("explain: a sum that is shortened", run(["explain", "tenth"], room).stdout.splitlines()[1].split()[8], "~0.35000")
+    tally.equal("explain: a sum that is shortened", run(["explain", "tenth"], room).stdout.splitlines()[1].split()[8], "~0.35")
 
 
 def described(tally):
@@ -209,6 +211,9 @@ def many_refused(tally, room):
         ("two folders", ["recipe", "a.pgm", "--into", "new", "--into", "newer"], 2, "--into twice"),
     ):
         one_line(tally, "many: %s" % where, run(["filter"] + words, room), status, said)
+    os.mkdir(os.path.join(room, "printed"))
+    with open(os.path.join(room, "printed", "a.pgm"), "wb") as printed:
+        one_line(tally, "many: lines into an output", run(["filter", "recipe", "a.pgm", "--into", "printed"], room, stdout=printed), 2, "is where standard output goes")
     tally.equal("many: nothing begun", os.path.exists(os.path.join(room, "new")), False)
     tally.equal("many: the inputs", [bytes_of(os.path.join(room, name)) for name in ("a.pgm", "b.pgm")], [program.STILL] * 2)
 
@@ -271,6 +276,14 @@ def library_missing(tally):
         another_library(tally, room)
 
 
+def through_a_link(tally):
+    """The script of a checkout, called by a link under its own name."""
+    with folders.fresh_folder() as room:
+        os.symlink(os.path.abspath(os.path.join("python", "hejslopi.py")), os.path.join(room, "hejslopi.py"))
+        answer = run(["--version"], room, command=[os.path.join(room, "hejslopi.py")])
+        tally.equal("through a link", (answer.status, answer.stdout[:9], answer.stderr), (0, "hejslopi ", ""))
+
+
 def another_library(tally, room):
     """A library of another kind, and one that is none."""
     for where, source in (("an empty library", ["-x", "c", "/dev/null"]), ("no library at all", None)):
@@ -313,9 +326,10 @@ def pip_installs(tally):
             tally.fails("pip install", Words(done.stdout), Words("an installed package"))
             return
         answer = run(["explain", "recipe"], room, command=[os.path.join(target, "bin", "hejslopi")], PYTHONPATH=target, PATH="/nowhere")
+        tally.equal("the installed package's types", os.path.exists(os.path.join(target, "hejslopi", "py.typed")), True)
         tally.equal("the installed command", (answer.status, answer.stderr, answer.stdout.splitlines()[2].split()[-2:]), (0, "", ["67579", "1.0312"]))
 
 
 def try_commands(tally):
-    for part in (recipes_made, wrong_descriptions, explained, described, many, usage, library_missing, library_closed, pip_installs):
+    for part in (recipes_made, wrong_descriptions, explained, described, many, usage, through_a_link, library_missing, library_closed, pip_installs):
         part(tally)

@@ -66,7 +66,7 @@ def no_file(calls):
                          ("-still/out", errno.ENOTDIR), ("/dev/full", errno.ENOSPC)):
         calls.fails("OUT %s" % name, ("-still", "a recipe", name), name, "written", word(number))
     calls.equal("a folder", os.listdir(calls.at("folder")), [])
-    calls.says("OUT /dev/stdout", ("-still", "a recipe", "/dev/stdout"), 0, os.fsdecode(program.OUT) + program.LINE + "\n")
+    calls.stops("OUT /dev/stdout", ("-still", "a recipe", "/dev/stdout"), "/dev/stdout: is where standard output goes, and the line with it")
     calls.says("OUT /dev/stderr", ("-still", "a recipe", "/dev/stderr"), 0, program.LINE + "\n", os.fsdecode(program.OUT))
     with subprocess.Popen(["cat", calls.at("pipe")], stdout=subprocess.PIPE) as reader:
         calls.says("OUT a pipe", ("-still", "a recipe", "pipe"), 0, program.LINE + "\n")

@@ -139,7 +139,7 @@ def out_is_the_recipe(calls):
     os.symlink("a recipe", calls.at("link"))
     os.link(calls.at("a recipe"), calls.at("second"))
     for name in ("./a recipe", "link", "second"):
-        calls.stops("OUT is the recipe by %s" % name, ("-still", "a recipe", name), "%s: is the recipe" % name)
+        calls.stops("OUT is the recipe by %s" % name, ("-still", "a recipe", name), "%s: is the recipe, which would be lost" % name)
         calls.holds("OUT is the recipe", "a recipe", program.RECIPE)
     calls.accepts("OUT is the still", ("-still", "a recipe", "-still"))
 

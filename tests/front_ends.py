@@ -6,7 +6,9 @@ line on standard error; OUT is whole or untouched.
 import collections
 import contextlib
 import os
+import resource
 import shutil
+import signal
 import subprocess
 import sys
 
@@ -18,9 +20,10 @@ from tally import Words
 # `lines`: it prints `ok W H channels T` or `no N` on standard output, as the program does. Python prints `T N`, and of a failure nothing.
 FrontEnd = collections.namedtuple("FrontEnd", "name command lines")
 
-# One still, one recipe of two stages whose second is refused, one of three whose last is cut off.
+# One still, one recipe of two stages whose second is refused, one of three whose last two are, one of three whose last is cut off.
 STILL, RECIPE, OUT, OLD = program.STILL, program.RECIPE, program.OUT, b"old " * 25
 BAD_RANK = bytes.fromhex("02 03 01 00 01 01 05 01 00 01 01 00 0A")
+BAD_TWICE = bytes.fromhex("03 03 01 00 01 01 05 01 00 01 01 00 0A 03 01 00 10 01")
 BAD_CUT = bytes.fromhex("03 03 01 00 01 01 04 01 00 01 01 03 01 00 01")
 
 # A disk with room for nothing that the tests write: a few pages, filled.
@@ -89,11 +92,11 @@ class Calls:
     def where(self, what):
         return "%s: %s" % (self.front.name, what)
 
-    def run(self, words, cwd, prepare=program.bounded(), stdout=subprocess.PIPE):
+    def run(self, words, cwd, prepare=program.bounded(), stdout=subprocess.PIPE, **changed):
         """How a call ends and what it prints. It has no toolchain at hand."""
         try:
             done = subprocess.run(self.front.command + words, cwd=cwd, stdin=subprocess.DEVNULL, stdout=stdout, stderr=subprocess.PIPE, preexec_fn=prepare,
-                                  env=dict(os.environ, PATH="/usr/bin:/bin"), timeout=program.PATIENCE)
+                                  env=dict(os.environ, PATH="/usr/bin:/bin", **changed), timeout=program.PATIENCE)
         except subprocess.TimeoutExpired:
             return Answer(None, "", "no end after %d s" % program.PATIENCE)
         return Answer(done.returncode, (done.stdout or b"").decode("utf-8", "backslashreplace"), done.stderr.decode("utf-8", "backslashreplace"))
@@ -146,6 +149,18 @@ def accepts(calls):
         calls.tally.equal(calls.where("over the still: still"), bytes_of(os.path.join(room, "still")), OUT)
 
 
+def large(calls):
+    """A still in colour, each channel of one grey, and a box: its mean is that grey everywhere, whatever the border of nearest adds. ./filter says that it is too large."""
+    still = b"P6\n200 150\n255\n" + bytes([10, 20, 30]) * (200 * 150)
+    with laid(still=holding(still), recipe=holding(bytes.fromhex("01 04 01 00 0F 0F"))) as room:
+        answer = calls.run(["still", "recipe", "out"], room)
+        if calls.front.name == "./filter":
+            calls.said("a large still", answer, 1, "no 21", "still: refused with 21", "python3 python/hejslopi.py filter")
+            return
+        calls.said("a large still", answer, 0, "ok 200 150 3 32768" if calls.front.lines else "T 32768")
+        calls.tally.equal(calls.where("a large still: out"), bytes_of(os.path.join(room, "out")), still)
+
+
 def follows_links(calls):
     """A link stays a link, and what it names gets the bytes, whether that was there or not."""
     for what, lay in (("a link", holding(OLD)), ("a link to nothing", nothing)):
@@ -181,12 +196,14 @@ def wrong_usage(calls):
     with laid(printed=holding(b"")) as room, open(os.path.join(room, "printed"), "wb") as printed:
         calls.said("out is standard output", calls.run(["still", "recipe", "/dev/stdout"], room, stdout=printed), 2, "", "standard output")
         calls.tally.equal(calls.where("out is standard output: printed"), bytes_of(os.path.join(room, "printed")), b"")
+        calls.said("out is a pipe that is standard output", calls.run(["still", "recipe", "/dev/stdout"], room), 2, "", "standard output")
 
 
 def refuses(calls):
     """Refused by the library: the number, its meaning, the file and the stage. An old file stays."""
     for what, files, line, words in (
         ("a position in stage 2", {"recipe": holding(BAD_RANK)}, "no 18", ("recipe", "refused with 18: a rank's position", "stage 2")),
+        ("a position in stage 2, and a radius in stage 3", {"recipe": holding(BAD_TWICE)}, "no 18", ("recipe", "refused with 18: a rank's position", "stage 2")),
         ("a recipe cut in stage 3", {"recipe": holding(BAD_CUT)}, "no 11", ("recipe", "refused with 11: the recipe ends", "stage 3")),
         ("an empty recipe", {"recipe": holding(b"")}, "no 11", ("recipe", "refused with 11")),
         ("nine stages", {"recipe": holding(b"\x09" + RECIPE[1:])}, "no 10", ("recipe", "refused with 10: the number of stages")),
@@ -221,6 +238,28 @@ def cannot_read(calls):
         calls.tally.equal(calls.where("an endless still"), (answer.status in (1, 2), len(answer.stderr.splitlines())), (True, 1))
 
 
+def limited(most):
+    """A limit on a file's length that sends its signal."""
+    def prepare():
+        resource.setrlimit(resource.RLIMIT_FSIZE, (most, most))
+        signal.signal(signal.SIGXFSZ, signal.SIG_DFL)
+    return prepare
+
+
+def faulty_disk(calls):
+    """A disk that says only when a file is synced or closed that it did not keep it."""
+    with folders.fresh_folder() as shims:
+        shim = os.path.join(shims, "faults.so")
+        subprocess.run(["cc", "-shared", "-fPIC", "-o", shim, os.path.join("tests", "c", "faults.c"), "-ldl"], check=True)
+        for fault in ("fsync", "close"):
+            with laid(out=holding(OLD)) as room:
+                before = lies_at(os.path.join(room, "out"))
+                what = "a disk that fails at %s" % fault
+                # Of ./filter it is the program's own file, in the scratch folder, that cannot be closed.
+                calls.said(what, calls.run(["still", "recipe", "out"], room, LD_PRELOAD=shim, FAULT=fault), 2, "no 22", "cannot be written")
+                kept(calls, what, room, "out", before)
+
+
 def cannot_write(calls):
     """No place for it: a folder, a device that is full, a folder that is missing, too little room."""
     for what, name, lay, words in (("a folder", "out", folder, "Is a directory"), ("in a missing folder", "none/out", None, "No such file"),
@@ -236,9 +275,10 @@ def cannot_write(calls):
     with laid(out=holding(OLD)) as room:
         before = lies_at(os.path.join(room, "out"))
         # ./filter has to copy its inputs first: so the limit lets these by.
-        answer = calls.run(["still", "recipe", "out"], room, program.bounded(len(OUT) - 1))
-        calls.tally.equal(calls.where("a byte too little"), (answer.status, len(answer.stderr.splitlines())), (2, 1))
-        kept(calls, "a byte too little", room, "out", before)
+        for what, prepare in (("a byte too little", program.bounded(len(OUT) - 1)), ("a byte too little, told by a signal", limited(len(OUT) - 1))):
+            answer = calls.run(["still", "recipe", "out"], room, prepare)
+            calls.tally.equal(calls.where(what), (answer.status, len(answer.stderr.splitlines())), (2, 1))
+            kept(calls, what, room, "out", before)
 
 
 def closed_to_writing(calls):
@@ -302,7 +342,7 @@ def try_front_ends(tally):
     with folders.fresh_folder() as room:
         for front in installed(room):
             calls = Calls(tally, front)
-            for part in (accepts, follows_links, writes_to_pipes, wrong_usage, refuses, cannot_read, cannot_write, full_disk, unprintable):
+            for part in (accepts, large, follows_links, writes_to_pipes, wrong_usage, refuses, cannot_read, cannot_write, full_disk, faulty_disk, unprintable):
                 part(calls)
             if runs_for_everybody(front.command, room):
                 closed_to_writing(calls)

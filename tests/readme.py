@@ -81,6 +81,27 @@ def from_shell(tally, room):
     tally.equal("the example for the shell: out", out, (still or b"")[:-len(samples)] + samples)
 
 
+def program_lines(room, size, radii):
+    """What the program says of a flat still of a size, by a box of some radii."""
+    width, height = map(int, size.split(" by "))
+    return filtered(room, b"P5\n%d %d\n255\n" % (width, height) + bytes(width * height), bytes([1, 4, 1, 0, *radii]))[0].split()[:2]
+
+
+def sizes(tally, room):
+    """The sizes that are said to fit the program, and those that are not; and the largest radii for one of them."""
+    text = section("Which front end")
+    for size in re.findall(r"\d+ by \d+", found(r"every still: (.+) fit;", text, "sizes that fit")):
+        tally.equal("%s fits" % size, program_lines(room, size, (0, 0))[0], "ok")
+    for size in re.findall(r"\d+ by \d+", found(r"fit; (.+) do not", text, "sizes that do not fit")):
+        tally.equal("%s does not fit" % size, program_lines(room, size, (0, 0)), ["no", "20"])
+    size = found(r"(\d+ by \d+) fits with all of them", text, "size that fits with all boxes")
+    tally.equal("%s with the largest box" % size, program_lines(room, size, (15, 15))[0], "ok")
+    size, radii = found(r"(\d+ by \d+) up to radii", text, "size with a largest box"), found(r"up to radii (\d+ and \d+)", text, "largest radii")
+    across, down = map(int, radii.split(" and "))
+    tally.equal("%s with a box of %s" % (size, radii), program_lines(room, size, (across, down))[0], "ok")
+    tally.equal("%s with a larger box" % size, program_lines(room, size, (across + 1, down + 1)), ["no", "20"])
+
+
 def from_c(tally, room):
     """The program in C, by the command printed below it."""
     text = section("From C")
@@ -212,7 +233,7 @@ def recipes(tally, room):
 
 def try_readme(tally):
     """Each example in a folder of its own, so that none finds what another has made. One that is not there is a failure and stops no other."""
-    for example in (from_shell, recipes, from_c, c_program, from_python, python_commands, python_commands_on, from_rust, rust_program):
+    for example in (from_shell, sizes, recipes, from_c, c_program, from_python, python_commands, python_commands_on, from_rust, rust_program):
         with folders.fresh_folder() as room:
             stand_in(room)
             try:

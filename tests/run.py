@@ -31,7 +31,7 @@ GROUPS = {
 }
 
 # Variables that would lead a group to another library, or a runner to other words.
-UNSET = ("HEJSLOPI_LIB_DIR", "FORCE_COLOR", "PYTHONPATH")
+UNSET = ("HEJSLOPI_LIB_DIR", "FORCE_COLOR") + tuple(name for name in os.environ if name.startswith("PYTHON") and name != "PYTHONDONTWRITEBYTECODE")
 SET = {"CARGO_TERM_COLOR": "never", "NO_COLOR": "1"}
 
 

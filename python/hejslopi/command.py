@@ -25,7 +25,7 @@ class Usage(Exception):
 def not_printed_to(target: str) -> None:
     """A file cannot take both the bytes and the line about them."""
     if files.is_standard_output(target):
-        raise Usage("%s is the file that standard output goes to" % name_text(target))
+        raise Usage("%s is where standard output goes, and the line with it" % name_text(target))
 
 
 def make_recipe(words: List[str], options: Options) -> int:
@@ -145,7 +145,7 @@ def parted(word: str, given: List[str]) -> Tuple[List[str], Options]:
         elif name + "=" in WORDS[word].options and (equals or rest and not rest[0].startswith("-")):
             options[name] = value if equals else rest.pop(0)
         else:
-            raise Usage("found the option %s" % name_text(item))
+            raise Usage("found the option %s%s" % (name_text(item), " without its value" if name + "=" in WORDS[word].options else ""))
     return words, options
 
 
@@ -165,7 +165,7 @@ def run(given: List[str]) -> int:
             say(help_of(word))
             return DONE
         if len(words) < 2 if "--into" in options else len(words) != WORDS[word].arguments:
-            raise Usage("found %d words behind `%s`" % (len(words), word))
+            raise Usage("words behind `%s`: %d" % (word, len(words)))
         return WORDS[word].work(words, options)
     except Usage as wrong:
         raise Trouble(FAILED, "%s; usage: %s" % (wrong, usage_of(word))) from None

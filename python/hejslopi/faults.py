@@ -96,7 +96,7 @@ LONGEST_HEADER = 4096
 def in_still(still: bytes, number: int) -> str:
     """What was found in a still that is refused with this number. "" where nothing more can be said."""
     if number == 1:
-        return "it begins with %s" % ascii(still[:2].decode("latin-1")) if len(still) >= 2 else "it has %d bytes" % len(still)
+        return "it begins with %s" % ascii(still[:2].decode("latin-1")) if still else "it has no bytes"
     header = HEADER.match(still, 0, LONGEST_HEADER)
     if header is None:
         return ""

@@ -60,12 +60,12 @@ def same(one: str, other: str) -> bool:
 
 
 def is_standard_output(path: str) -> bool:
-    """Whether a path leads to the regular file that standard output goes to: the line printed there would be lost with the old file, or stand in the new."""
+    """Whether a path leads to where standard output goes: the line would be lost with the old file, or stand behind the samples. A terminal may have both."""
     try:
         there, printed = os.stat(path), os.fstat(sys.stdout.fileno())
     except (OSError, ValueError):
         return False
-    return stat.S_ISREG(there.st_mode) and os.path.samestat(there, printed)
+    return not stat.S_ISCHR(there.st_mode) and os.path.samestat(there, printed)
 
 
 # ---- writing

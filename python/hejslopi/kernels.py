@@ -37,4 +37,4 @@ def fraction_text(value: Fraction) -> str:
 
 def short_text(value: str) -> str:
     """A fraction's text for a table: one that is long as a decimal that is near to it."""
-    return value if len(value) <= 8 else "~%.5f" % Fraction(value)
+    return value if len(value) <= 8 else "~%.5g" % Fraction(value)

@@ -65,6 +65,8 @@ def targets_of(recipe: str, stills: List[str], folder: str) -> List[str]:
     for target in targets:
         if os.path.realpath(target) in inputs:
             raise Trouble(FAILED, "%s: is one of the files to be read, and would be written over" % name_text(target))
+        if files.is_standard_output(target):
+            raise Trouble(FAILED, "%s: is where standard output goes, and the lines with it" % name_text(target))
         if os.path.realpath(target) in outputs:
             raise Trouble(FAILED, "%s: two of the stills would be written there, and one would be lost" % name_text(target))
         outputs.add(os.path.realpath(target))

@@ -38,12 +38,12 @@ def is_near(value: Any) -> bool:
 
 
 def real_weight(place: str, value: Any, rounded: List[Rounded]) -> float:
-    """A weight as a binary32. What was given counts as held where it is, as far as a float tells: so a weight as `describe` shows it is not rounded."""
+    """A weight as a binary32. One that is written as `describe` shows it counts as held, though its last digit may be rounded there."""
     if isinstance(value, bool) or not isinstance(value, (int, float, Decimal)) or not is_near(value):
         raise Mistake(place, shown(value), REAL_WEIGHTS)
     held = float(value) if value == 0 else nearest_binary32(Fraction(value), float(value))
     if held and not LEAST <= abs(held) <= MOST:
         raise Mistake(place, shown(value), REAL_WEIGHTS)
-    if float(value) != held:
+    if Fraction(value) not in (Fraction(held), Fraction(repr(held))):
         rounded.append(Rounded(place, shown(value), held))
     return held

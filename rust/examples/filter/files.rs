@@ -1,7 +1,8 @@
 //! Files read up to a length, and written whole or not at all.
+use crate::process;
 use std::fs::{self, File, Metadata, OpenOptions, Permissions};
 use std::io::{self, ErrorKind, Read, Write};
-use std::os::unix::fs::{MetadataExt, OpenOptionsExt, PermissionsExt};
+use std::os::unix::fs::{FileTypeExt, MetadataExt, OpenOptionsExt, PermissionsExt};
 use std::path::{Path, PathBuf};
 
 /// As many links as Linux follows.
@@ -22,17 +23,23 @@ pub fn same(one: &Path, other: &Path) -> bool {
     matches!((identity(one), identity(other)), (Ok(a), Ok(b)) if a == b)
 }
 
-/// Whether a path leads to the regular file that standard output goes to: a line printed there would be lost with the old file.
+/// Whether a path leads to where standard output goes. A line printed there would be lost with the old file, or stand behind the samples;
+/// a terminal and the like may have both.
 pub fn takes_output(path: &Path) -> bool {
-    path.is_file() && same(path, Path::new("/dev/stdout"))
+    let device = fs::metadata(path).is_ok_and(|file| file.file_type().is_char_device());
+    !device && same(path, Path::new("/dev/stdout"))
 }
 
 /// Writes a file whole, or leaves it as it was. What is no file, such as a device or a pipe, is written to as it is.
 pub fn write(path: &Path, bytes: &[u8]) -> io::Result<()> {
     match fs::metadata(path) {
-        Ok(old) if old.is_file() => replace(&followed(path), Some(old.mode()), bytes),
+        Ok(old) if old.is_file() => {
+            process::unheeding(|| replace(&followed(path), Some(old.mode()), bytes))
+        }
         Ok(_) => write_in_place(path, bytes),
-        Err(error) if error.kind() == ErrorKind::NotFound => replace(&followed(path), None, bytes),
+        Err(error) if error.kind() == ErrorKind::NotFound => {
+            process::unheeding(|| replace(&followed(path), None, bytes))
+        }
         Err(error) => Err(error),
     }
 }
@@ -42,9 +49,10 @@ fn write_in_place(path: &Path, bytes: &[u8]) -> io::Result<()> {
     let mut place = OpenOptions::new().write(true).open(path)?;
     place.write_all(bytes)?;
     match place.sync_all() {
-        Err(error) if error.kind() == ErrorKind::InvalidInput => Ok(()), // it keeps nothing back
-        synced => synced,
+        Err(error) if error.kind() == ErrorKind::InvalidInput => {} // it keeps nothing back
+        synced => synced?,
     }
+    process::file_closed(place)
 }
 
 /// What a path names once links are followed, also where nothing is there yet.
@@ -87,13 +95,14 @@ fn new_beside(place: &Path, mode: u32) -> io::Result<(PathBuf, File)> {
     }
 }
 
-/// Fills a new file, down to the disk: so every error has been seen before it is closed.
+/// Fills a new file, down to the disk, and closes it.
 fn fill(mut file: File, old: Option<u32>, bytes: &[u8]) -> io::Result<()> {
     file.write_all(bytes)?;
     if let Some(mode) = old {
         file.set_permissions(Permissions::from_mode(mode & 0o777))?;
     }
-    file.sync_all()
+    file.sync_all()?;
+    process::file_closed(file)
 }
 
 /// The folder that a path's last name stands in.

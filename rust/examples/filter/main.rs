@@ -1,7 +1,7 @@
 //! filter STILL RECIPE OUT: filters a still by a recipe into OUT and prints `ok W H channels T`, or `no N` with the reason on standard
 //! error. It ends with 0 when done, with 1 when the library refuses, and with 2 when it is called wrongly or when a file or standard
 //! output fails. OUT is written whole, or left as it was.
-//! The lent buffers are as long as the picture needs, so the two limits on lengths of files do not apply.
+//! The lent buffers are as long as the picture needs, so it takes stills of up to 8,192 by 8,192.
 mod files;
 mod process;
 
@@ -38,6 +38,15 @@ impl Failure {
         }
     }
 
+    /// There is no memory for a still.
+    fn unheld(file: &OsStr) -> Failure {
+        Failure {
+            number: Refusal::Room.number(),
+            line: about(file, "there is not enough memory"),
+            status: 2,
+        }
+    }
+
     /// A file cannot be read.
     fn unread(file: &OsStr, reason: &str) -> Failure {
         Failure::of_file(file, &format!("cannot be read: {reason}"))
@@ -67,10 +76,13 @@ fn main() -> ExitCode {
         return stopped(b"usage: filter STILL RECIPE OUT");
     };
     if files::same(recipe.as_ref(), out.as_ref()) {
-        return stopped(&about(out, "is the recipe"));
+        return stopped(&about(out, "is the recipe, which would be lost"));
     }
     if files::takes_output(out.as_ref()) {
-        return stopped(&about(out, "is the file that standard output goes to"));
+        return stopped(&about(
+            out,
+            "is where standard output goes, and the line with it",
+        ));
     }
     let done = filtered(still, recipe, out);
     let line = match &done {
@@ -97,14 +109,18 @@ fn filtered(still: &OsStr, recipe: &OsStr, out: &OsStr) -> Result<String, Failur
     };
     let picture = read(still, STILL_MOST + 1)?;
     if picture.len() > STILL_MOST {
-        return Err(Failure::unread(still, "it is longer than any still"));
+        return Err(Failure::unread(
+            still,
+            "it is longer than 202,375,168 bytes",
+        ));
     }
     let stages = read(recipe, RECIPE_MOST)?;
-    let file = hejslopi::filter_file(&stages, &picture).map_err(|refusal| {
-        let of_recipe = (10..=18).contains(&refusal.number());
-        let file = if of_recipe { recipe } else { still };
-        Failure::refused(file, refusal, faulty_stage(&stages))
-    })?;
+    let file =
+        hejslopi::filter_file(&stages, &picture).map_err(|refusal| match refusal.number() {
+            10..=18 => Failure::refused(recipe, refusal, faulty_stage(&stages)),
+            _ if refusal == Refusal::Room => Failure::unheld(still),
+            _ => Failure::refused(still, refusal, None),
+        })?;
     files::write(out.as_ref(), &file.bytes)
         .map_err(|error| Failure::unwritten(out, &reason(&error)))?;
     Ok(format!(
