@@ -96,8 +96,11 @@ class Filter:
         self.holds(where, words[2], program.OUT)
 
     def refuses(self, where, words, which, number, more="", **how):
-        """One test: the library refuses, by this file."""
-        self.says(where, words, 1, "no %d\n" % number, "filter: %s: refused with %d: %s%s\n" % (which, number, self.meanings[number], more), **how)
+        """One test: the library refuses, by this file. `more` is what stands behind the meaning, None where another test says what that is."""
+        status, out, err = self.ends(words, **how)
+        line = "filter: %s: refused with %d: %s" % (which, number, self.meanings[number])
+        told = err[:len(line)] if more is None and err.count("\n") == 1 else err
+        self.equal(where, (status, out, told), (1, "no %d\n" % number, line if more is None else "%s%s\n" % (line, more)))
 
     def fails(self, where, words, which, verb, why, **how):
         """One test: a file cannot be read or written."""

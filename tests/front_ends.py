@@ -200,22 +200,24 @@ def wrong_usage(calls):
 
 
 def refuses(calls):
-    """Refused by the library: the number, its meaning, the file and the stage. An old file stays."""
-    for what, files, line, words in (
-        ("a position in stage 2", {"recipe": holding(BAD_RANK)}, "no 18", ("recipe", "refused with 18: a rank's position", "stage 2")),
+    """Refused by the library: the number, its meaning, the file and the stage; but for the program in C also the field and what was found. An old file stays."""
+    for what, files, line, words, *found in (
+        ("a position in stage 2", {"recipe": holding(BAD_RANK)}, "no 18", ("recipe", "refused with 18: a rank's position", "stage 2"), "position: found 10"),
         ("a position in stage 2, and a radius in stage 3", {"recipe": holding(BAD_TWICE)}, "no 18", ("recipe", "refused with 18: a rank's position", "stage 2")),
         ("a recipe cut in stage 3", {"recipe": holding(BAD_CUT)}, "no 11", ("recipe", "refused with 11: the recipe ends", "stage 3")),
         ("an empty recipe", {"recipe": holding(b"")}, "no 11", ("recipe", "refused with 11")),
-        ("nine stages", {"recipe": holding(b"\x09" + RECIPE[1:])}, "no 10", ("recipe", "refused with 10: the number of stages")),
-        ("a byte too much", {"recipe": holding(RECIPE + b"\0")}, "no 12", ("recipe", "refused with 12: the recipe goes on")),
-        ("no still", {"still": holding(b"GIF89a")}, "no 1", ("still", "refused with 1: the file does not begin")),
-        ("a short still", {"still": holding(STILL[:-1])}, "no 5", ("still", "refused with 5: there are fewer samples")),
+        ("nine stages", {"recipe": holding(b"\x09" + RECIPE[1:])}, "no 10", ("recipe", "refused with 10: the number of stages"), "found 9"),
+        ("a byte too much", {"recipe": holding(RECIPE + b"\0")}, "no 12", ("recipe", "refused with 12: the recipe goes on"), "last stage ends with byte 6"),
+        ("no still", {"still": holding(b"GIF89a")}, "no 1", ("still", "refused with 1: the file does not begin"), "GI"),
+        ("a still without height", {"still": holding(b"P5\n3 0\n255\n")}, "no 3", ("still", "refused with 3: the width or the height"), "found 3 by 0"),
+        ("a still of other samples", {"still": holding(b"P5\n3 1\n256\nabc")}, "no 4", ("still", "refused with 4: the header's maximum"), "found 256"),
+        ("a short still", {"still": holding(STILL[:-1])}, "no 5", ("still", "refused with 5: there are fewer samples"), "3 by 1"),
         ("an endless recipe", {"recipe": link_to("/dev/zero")}, None, ("recipe", "refused with")),
     ):
         with laid(out=holding(OLD), **files) as room:
             before = lies_at(os.path.join(room, "out"))
             answer = calls.run(["still", "recipe", "out"], room)
-            calls.said(what, answer, 1, line or answer.stdout.strip(), *words)
+            calls.said(what, answer, 1, line or answer.stdout.strip(), *words, *(found if calls.front.name != "C" else ()))
             kept(calls, what, room, "out", before)
 
 

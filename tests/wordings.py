@@ -31,7 +31,7 @@ def wordings():
         "include/hejslopi.h": by_name("include/hejslopi.h", r"HEJSLOPI_(\w+) = (\d+)", r"case HEJSLOPI_(\w+):\s*return \"([^\"]+)\""),
         "rust/src/refusal.rs": by_name("rust/src/refusal.rs", r"(\w+) = (\d+),", r"Refusal::(\w+) => \{?\s*\"([^\"]+)\""),
         "Python": by_number("python/hejslopi/refusals.py", r"(?m)^    (\d+): \"(.+)\",$"),
-        "./filter": by_number("filter", r"(?m)^ +(\d+)\) echo \"([^\"]+)\" ;;$"),
+        "./filter": by_number("filter", r"(?m)^ +(\d+)\) echo \"([a-z][^\"]+)\" ;;$"),
     }
 
 

@@ -3,9 +3,10 @@
 //! output fails. OUT is written whole, or left as it was.
 //! The lent buffers are as long as the picture needs, so it takes stills of up to 8,192 by 8,192.
 mod files;
+mod found;
 mod process;
 
-use hejslopi::{faulty_stage, Refusal};
+use hejslopi::Refusal;
 use std::ffi::{OsStr, OsString};
 use std::fs::File;
 use std::io::{self, Write};
@@ -27,13 +28,12 @@ struct Failure {
 }
 
 impl Failure {
-    /// The library refuses a file; perhaps a stage is at fault.
-    fn refused(file: &OsStr, refusal: Refusal, stage: Option<usize>) -> Failure {
+    /// The library refuses a file, for what was found there.
+    fn refused(file: &OsStr, refusal: Refusal, found: &str) -> Failure {
         let number = refusal.number();
-        let stage = stage.map_or(String::new(), |stage| format!(" (stage {stage})"));
         Failure {
             number,
-            line: about(file, &format!("refused with {number}: {refusal}{stage}")),
+            line: about(file, &format!("refused with {number}: {refusal}{found}")),
             status: 1,
         }
     }
@@ -117,9 +117,9 @@ fn filtered(still: &OsStr, recipe: &OsStr, out: &OsStr) -> Result<String, Failur
     let stages = read(recipe, RECIPE_MOST)?;
     let file =
         hejslopi::filter_file(&stages, &picture).map_err(|refusal| match refusal.number() {
-            10..=18 => Failure::refused(recipe, refusal, faulty_stage(&stages)),
+            10..=18 => Failure::refused(recipe, refusal, &found::in_recipe(&stages, refusal)),
             _ if refusal == Refusal::Room => Failure::unheld(still),
-            _ => Failure::refused(still, refusal, None),
+            _ => Failure::refused(still, refusal, &found::in_still(&picture, refusal)),
         })?;
     files::write(out.as_ref(), &file.bytes)
         .map_err(|error| Failure::unwritten(out, &reason(&error)))?;
