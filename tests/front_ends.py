@@ -151,13 +151,13 @@ def accepts(calls):
 
 def large(calls):
     """A still in colour, each channel of one grey, and a box: its mean is that grey everywhere, whatever the border of nearest adds. ./filter says that it is too large."""
-    still = b"P6\n200 150\n255\n" + bytes([10, 20, 30]) * (200 * 150)
+    still = b"P6\n300 200\n255\n" + bytes([10, 20, 30]) * (300 * 200)
     with laid(still=holding(still), recipe=holding(bytes.fromhex("01 04 01 00 0F 0F"))) as room:
         answer = calls.run(["still", "recipe", "out"], room)
         if calls.front.name == "./filter":
             calls.said("a large still", answer, 1, "no 21", "still: refused with 21", "python3 python/hejslopi.py filter")
             return
-        calls.said("a large still", answer, 0, "ok 200 150 3 32768" if calls.front.lines else "T 32768")
+        calls.said("a large still", answer, 0, "ok 300 200 3 32768" if calls.front.lines else "T 32768")
         calls.tally.equal(calls.where("a large still: out"), bytes_of(os.path.join(room, "out")), still)
 
 
