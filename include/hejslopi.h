@@ -76,7 +76,7 @@ static inline const char *hejslopi_meaning(uint32_t number)
     case HEJSLOPI_STAGE_COUNT: return "the number of stages is 0 or over 8";
     case HEJSLOPI_CUT: return "the recipe ends before a field is complete";
     case HEJSLOPI_TRAILING: return "the recipe goes on after its last stage";
-    case HEJSLOPI_KIND: return "a kind is not 1 to 5, a border is over 3, or a border other than constant has a value that is not 0";
+    case HEJSLOPI_KIND: return "a kind is not 1 to 6, a border is over 3, or a border other than constant has a value that is not 0";
     case HEJSLOPI_COUNT: return "an axis has 0 or over 31 taps, a divisor is 0, a radius is over 15, or a plane's recipe has several stages";
     case HEJSLOPI_OFFSET: return "an offset is not -15 to 15, or not above the one before it";
     case HEJSLOPI_REAL_WEIGHT: return "the size of a real weight is neither 0 nor from 2^-12 to 4";

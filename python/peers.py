@@ -3,12 +3,13 @@
 
 It writes a line for each: work, size, peer, nanoseconds a sample (best of several runs, one thread, buffers warm), and `=` where
 the peer's samples are those of document 01 on this picture, `~` where some differ, with tabs between. On standard error it says
-how many differ and by how much. The same arithmetic, whatever the picture: a box (an odd area never gives a half) and a rank.
+how many differ and by how much. The same arithmetic, whatever the picture: boxes (an odd area never gives a half), ranks and outlines.
 Only a similar one: stages of weights, for neither peer rounds weights to 65,536ths and row values to 64ths. Binomials of 3x3 and
 5x5 lose nothing by either, so their samples agree. SciPy is handed binary64 and its result is rounded here. A chain has both.
 
     python3 python/peers.py FILE && cd rust && cargo run --release --example benchmark -- FILE
 """
+import functools
 import math
 import sys
 import time
@@ -47,7 +48,15 @@ RATIOS_31 = [16 - abs(i) for i in range(-15, 16)], 256
 SHARPER = [-1, 6, -1], 4
 QUARTERS = [1, 2, 1], 4
 
-# A stage: ("weights", taps), ("box", radius), ("median", radius)
+# The kernels of an outline, each by its rows, the top row first.
+KERNELS = [
+    [[-1, 0, 1], [-1, 0, 1], [-1, 0, 1]],
+    [[-1, -1, -1], [0, 0, 0], [1, 1, 1]],
+    [[0, 1, 1], [-1, 0, 1], [-1, -1, 0]],
+    [[-1, -1, 0], [-1, 0, 1], [0, 1, 1]],
+]
+
+# A stage: ("weights", taps), ("box", radius), ("median", radius), ("outline", kernels)
 EIGHT = [
     ("weights", binomial(1)),
     ("box", 1),
@@ -69,6 +78,7 @@ WORK = [
     ("rank 3x3", [("median", 1)]),
     ("rank 7x7", [("median", 3)]),
     ("rank 31x31", [("median", 15)]),
+    ("outline", [("outline", KERNELS)]),
     ("eight stages", EIGHT),
 ]
 
@@ -88,11 +98,16 @@ def unknown(kind):
     sys.exit("benchmark: %r is no kind of stage that is compared" % kind)
 
 
+def strongest(sums):
+    """The largest magnitude among some sums at each place, at most 255."""
+    return functools.reduce(numpy.maximum, map(numpy.abs, sums)).clip(0, 255).astype(numpy.uint8)
+
+
 def document_01(stage, x):
     """A stage as document 01 has it, with the nearest border, in whole numbers. A median is sorted out in rows, to spare memory."""
     kind, what = stage
     h, w = x.shape
-    r = len(what[0]) // 2 if kind == "weights" else what
+    r = len(what[0]) // 2 if kind in ("weights", "outline") else what
     padded = numpy.pad(x.astype(numpy.int64), r, mode="edge")
     side = 2 * r + 1
     if kind == "weights":
@@ -104,6 +119,8 @@ def document_01(stage, x):
         table = numpy.pad(padded.cumsum(0).cumsum(1), ((1, 0), (1, 0)))
         total = table[side:, side:] - table[:-side, side:] - table[side:, :-side] + table[:-side, :-side]
         return ((2 * total + side * side) // (2 * side * side)).astype(numpy.uint8)
+    if kind == "outline":
+        return strongest(sum(kernel[j][i] * padded[j:j + h, i:i + w] for j in range(side) for i in range(side)) for kernel in what)
     if kind != "median":
         unknown(kind)
     windows = numpy.lib.stride_tricks.sliding_window_view(padded.astype(numpy.uint8), (side, side))
@@ -119,6 +136,10 @@ def by_opencv(stage):
         return lambda x: cv2.blur(x, side, borderType=edge)
     if kind == "median":
         return lambda x: cv2.medianBlur(x, 2 * what + 1)
+    if kind == "outline":
+        kernels = [numpy.array(kernel, numpy.float32) for kernel in what]
+        # Magnitude and saturation are one pass of OpenCV's. No order is lost by it, so the maximum may come last, and is of bytes.
+        return lambda x: functools.reduce(cv2.max, [cv2.convertScaleAbs(cv2.filter2D(x, cv2.CV_16S, kernel, borderType=edge)) for kernel in kernels])
     if kind != "weights":
         unknown(kind)
     if what in (binomial(1), binomial(2)):
@@ -140,6 +161,8 @@ def by_scipy(stage):
         return box
     if kind == "median":
         return lambda x: ndimage.median_filter(x, 2 * what + 1, mode="nearest")
+    if kind == "outline":
+        return lambda x: strongest(ndimage.correlate(x, kernel, output=numpy.int16, mode="nearest") for kernel in what)
     if kind != "weights":
         unknown(kind)
     taps = numpy.array(what[0], numpy.float64) / what[1]

@@ -185,6 +185,12 @@ class Recipes(unittest.TestCase):
         self.built({"kind": "rank", "across": 15, "down": 15, "position": "largest"}, "05 01 00 0F 0F 03 C1")
         self.built({"kind": "rank", "across": 1, "down": 2, "position": "smallest"}, "05 01 00 01 02 00 01")
 
+    def test_outline(self):
+        """A header and nothing more."""
+        self.built({"kind": "outline"}, "06 01 00")
+        self.built({"kind": "outline", "border": "wrap"}, "06 03 00")
+        self.built({"kind": "outline", "border": {"constant": 20}}, "06 00 14")
+
     def test_ratios(self):
         self.built(
             {
@@ -235,6 +241,23 @@ class Recipes(unittest.TestCase):
         self.assertEqual(str(real["across"]["15"]), "-0.0")
         self.assertEqual(hejslopi.recipe([box, real]), recipe)
 
+    def test_described_outlines(self):
+        """Stages that end with their header, one behind the other and at the recipe's end."""
+        recipe = bytes.fromhex("03 06 00 FF 04 01 00 01 02 06 02 00")
+        described = [{"kind": "outline", "border": {"constant": 255}}, {"kind": "box", "across": 1, "down": 2, "border": "nearest"},
+                     {"kind": "outline", "border": "mirror"}]
+        self.assertEqual(hejslopi.describe(recipe), described)
+        self.assertEqual(hejslopi.recipe(described), recipe)
+
+    def test_explained_outlines(self):
+        """T of a box is 32,768, half a grey level, and each outline behind it makes six times as much of it. In front of it there is nothing to grow."""
+        first, box, *outlines = hejslopi.explain(bytes.fromhex("06 06 03 00 04 01 00 01 01" + 4 * "06 00 07"))["stages"]
+        self.assertEqual([first["tolerance"], box["tolerance"], "growth" in box], [0, 32768, False])
+        self.assertEqual([stage["tolerance"] for stage in outlines], [6 * 32768, 36 * 32768, 216 * 32768, 255 * 65536])
+        axis = {"offsets": [-1, 0, 1], "sum": None, "gain": None}
+        for stage in outlines:
+            self.assertEqual([stage[name] for name in ("kind", "border", "border_value", "across", "down", "growth")], ["outline", "constant", 7, axis, axis, 6])
+
 
 class Faults(unittest.TestCase):
     """Where a recipe is refused, worked by hand."""
@@ -242,9 +265,12 @@ class Faults(unittest.TestCase):
     TABLE = (
         ("", 11, "it has no bytes"),
         ("09", 10, "byte 1: found 9 stages, allowed: 1 to 8"),
-        ("01 06 01 00", 13, "stage 1, kind: found 6, allowed: 1 ratios, 2 reals, 3 binomial, 4 box, 5 rank"),
+        ("01 07 01 00", 13, "stage 1, kind: found 7, allowed: 1 ratios, 2 reals, 3 binomial, 4 box, 5 rank, 6 outline"),
+        ("01 00 01 00", 13, "stage 1, kind: found 0, allowed: 1 ratios, 2 reals, 3 binomial, 4 box, 5 rank, 6 outline"),
         ("02 03 01 00 01 01 03 04 00 01 01", 13, "stage 2, border: found 4, allowed: 0 constant, 1 nearest, 2 mirror, 3 wrap"),
         ("01 03 01 05 01 01", 13, "stage 1, border value: found 5, allowed: 0, unless the border is 0 constant"),
+        ("02 06 01 00 06 04 00", 13, "stage 2, border: found 4, allowed: 0 constant, 1 nearest, 2 mirror, 3 wrap"),
+        ("02 06 00 09 06 03 05", 13, "stage 2, border value: found 5, allowed: 0, unless the border is 0 constant"),
         ("01 03 01 00 01 10", 14, "stage 1, down, radius: found 16, allowed: 0 to 15"),
         ("01 01 01 00 20 01", 14, "stage 1, across, taps: found 32, allowed: 1 to 31"),
         ("01 01 01 00 01 01 00 01 00 00", 14, "stage 1, down, divisor: found 0, allowed: 1 to 65,535"),
@@ -255,7 +281,11 @@ class Faults(unittest.TestCase):
         ("01 01 01 00 01 01 00 01 00 03 00 00 00 01 FF F3", 17, "stage 1, down: found a gain of 13/3, allowed: at most 4"),
         ("02 03 01 00 01 01 05 01 00 01 01 00 0A", 18, "stage 2, position: found 10, allowed: 1 to 9, the samples of its window"),
         ("02 03 01 00 01 01 05 01 00 01 01 00", 11, "stage 2, position: it ends with byte 12"),
+        ("01 06", 11, "stage 1, border: it ends with byte 2"),
+        ("02 03 01 00 01 01 06 01", 11, "stage 2, border value: it ends with byte 8"),
+        ("02 06 01 00", 11, "stage 2, kind: it ends with byte 4"),
         ("01 03 01 00 01 01 07 07", 12, "its last stage ends with byte 6, and more follow"),
+        ("01 06 01 00 01 01", 12, "its last stage ends with byte 4, and more follow"),
     )
 
     def test_table(self):

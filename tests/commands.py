@@ -28,6 +28,7 @@ TWO_STAGES = bytes.fromhex("02 03 01 00 01 01 04 01 00 01 01")
 SHARPEN = bytes.fromhex("01 01 02 00 03 01 00 04 00 01 FF 00 01 00 FF FF 00 04 00 01 00 01")
 FOURFOLD = bytes.fromhex("01 00 00 01 01 00 01 00 01 00 00 00 04 00 04")
 LOUD = b"\x04\x03\x01\x00\x01\x01" + 3 * FOURFOLD
+OUTLINED = bytes.fromhex("03 06 00 07 04 01 00 01 01 06 03 00")
 
 
 def environment(**changed):
@@ -124,10 +125,22 @@ def explained(tally):
                     "1 ratios mirror 3 at -1 to 1 1 1.5 1 at 0 1 1".split())
         tally.equal("explain: a rank", run(["explain", "rank"], room).stdout.splitlines()[1].split(),
                     "1 rank 8 of 15 constant 7 3 at -1 to 1 - - 5 at -2 to 2 - - 0 0.0000".split())
+        explained_outlines(tally, room)
         tally.equal("explain: T 0", run(["explain", "rank"], room).stdout.splitlines()[-1], "T is 0: every sample is the exact result.")
         tally.equal("explain: T at its most", "it says nothing" in run(["explain", "loud"], room).stdout.splitlines()[-1], True)
         one_line(tally, "explain: a missing recipe", run(["explain", "none"], room), 2, "none: cannot be read: No such file")
         explained_to_programs(tally, room)
+
+
+def explained_outlines(tally, room):
+    """T of a box is half a grey level, and the outline behind it makes three of it. One sentence says so, and none where there is no outline."""
+    written(os.path.join(room, "outlined"), OUTLINED)
+    lines = run(["explain", "outlined"], room).stdout.splitlines()
+    axes = 2 * ["3", "at", "-1", "to", "1", "-", "-"]
+    tally.equal("explain: an outline", lines[1].split(), ["1", "outline", "constant", "7"] + axes + ["0", "0.0000"])
+    tally.equal("explain: an outline behind a box", lines[3].split(), ["3", "outline", "wrap"] + axes + ["196608", "3.0000"])
+    said = [sum("Behind an outline T is 6 times" in line for line in run(["explain", name], room).stdout.splitlines()) for name in ("outlined", "two")]
+    tally.equal("explain: how T grows", said, [1, 0])
 
 
 def explained_to_programs(tally, room):
@@ -141,6 +154,8 @@ def explained_to_programs(tally, room):
                 [[34811, 67579], 67579, 67579 / 65536, 67579 / 32768])
     told = json.loads(run(["explain", "loud", "--json"], room).stdout)
     tally.equal("explain --json: T at its most", [told["tolerance"], told["says_nothing"]], [16711680, True])
+    stages = json.loads(run(["explain", "outlined", "--json"], room).stdout)["stages"]
+    tally.equal("explain --json: how T grows", [(stage["tolerance"], stage.get("growth")) for stage in stages], [(0, 6), (32768, None), (196608, 6)])
     # Weights 1/3 of ratios, and of reals the binary32 next to 0.1 and 1/4: 13421773/2^27 + 1/4 = 46976205/2^27.
     written(os.path.join(room, "thirds"), bytes.fromhex("01 01 01 00 02 01 00 03 00 01 00 01 00 00 01 00 01 00 01"))
     written(os.path.join(room, "tenth"), bytes.fromhex("01 02 01 00 02 01 00 01 00 3D CC CC CD 3E 80 00 00 3F 80 00 00"))
@@ -152,7 +167,7 @@ def explained_to_programs(tally, room):
 def described(tally):
     """What is described and made again has the same bytes."""
     with folders.fresh_folder() as room:
-        for name, data in (("two", TWO_STAGES), ("sharpen", SHARPEN), ("loud", LOUD), ("example", program.RECIPE)):
+        for name, data in (("two", TWO_STAGES), ("sharpen", SHARPEN), ("loud", LOUD), ("outlined", OUTLINED), ("example", program.RECIPE)):
             written(os.path.join(room, name), data)
             answer = run(["describe", name], room)
             written(os.path.join(room, "again.json"), answer.stdout.encode())
@@ -255,6 +270,18 @@ def usage(tally):
                 one_line(tally, "help on a full device", run(["--help"], room, stdout=full), 2, "standard output cannot be written: No space left")
 
 
+def help_example(tally):
+    """What `recipe --help` shows as a description is one, and has each kind once."""
+    with folders.fresh_folder() as room:
+        text = run(["recipe", "--help"], room).stdout
+        example = text[text.index("[{"):text.index("}]") + len("}]")]
+        written(os.path.join(room, "example.json"), example.encode())
+        answer = run(["recipe", "example.json", "recipe"], room)
+        kinds = descriptions.KINDS.split(", ")
+        tally.equal("the help's description", (answer.status, answer.stderr, answer.stdout.split()[:2]), (0, "", ["stages", str(len(kinds))]))
+        tally.equal("the help's kinds", sorted(stage["kind"] for stage in json.loads(example)), sorted(kinds))
+
+
 # ---- the library
 
 
@@ -331,5 +358,5 @@ def pip_installs(tally):
 
 
 def try_commands(tally):
-    for part in (recipes_made, wrong_descriptions, explained, described, many, usage, through_a_link, library_missing, library_closed, pip_installs):
+    for part in (recipes_made, wrong_descriptions, explained, described, many, usage, help_example, through_a_link, library_missing, library_closed, pip_installs):
         part(tally)

@@ -2,6 +2,7 @@
 
 BOX = '{"kind": "box", "across": 1, "down": 1%s}'
 RANK = '[{"kind": "rank", "across": 1, "down": 1%s}]'
+OUTLINE = '[{"kind": "outline"%s}]'
 RATIOS = '[{"kind": "ratios", "across": %s, "down": {"over": 1, "taps": {"here": 1}}}]'
 TAPS = RATIOS % '{"over": 1, "taps": %s}'
 REALS = '[{"kind": "reals", "across": %s, "down": {"0": 1}}]'
@@ -13,7 +14,7 @@ def boxes(*rest):
 
 
 RADIUS = "a whole number from 0 to 15"
-KINDS = "ratios, reals, binomial, box, rank"
+KINDS = "ratios, reals, binomial, box, rank, outline"
 BORDERS = 'nearest, mirror, wrap, or {"constant": VALUE}'
 ACROSS, DOWN = "left, here, right, or an offset from -15 to 15", "up, here, down, or an offset from -15 to 15"
 REAL = "0, or 2^-12 to 4 in size"
@@ -74,6 +75,14 @@ WRONG = (
     (RANK % ', "position": 0', ("stage 1, position", "found 0", "from 1 to 9")),
     (RANK % ', "position": 10', ("stage 1, position", "found 10", "from 1 to 9")),
     (RANK % ', "position": "middle"', ("stage 1, position", '"middle"', "median, smallest, largest")),
+    # outlines
+    (OUTLINE % ', "across": 1, "down": 1', ("stage 1", 'the key "across"', "allowed: kind, border")),
+    ('[%s, {"kind": "outline", "down": 1}]' % BOX % "", ("stage 2", 'the key "down"', "allowed: kind, border")),
+    (OUTLINE % ', "position": "largest"', ("stage 1", 'the key "position"', "allowed: kind, border")),
+    (OUTLINE % ', "boarder": "wrap"', ("stage 1", 'the key "boarder"', "is it border?")),
+    (OUTLINE % ', "border": "constant"', ("stage 1, border", 'found "constant"', BORDERS)),
+    (OUTLINE % ', "border": {"constant": 256}', ("stage 1, border, constant", "found 256", "from 0 to 255")),
+    ('[{"kind": "outlines"}]', ("stage 1, kind", '"outlines"', KINDS, "is it outline?")),
     # ratios
     (RATIOS % "1", ("stage 1, across", "found 1", "over, taps")),
     (RATIOS % '{"taps": {"here": 1}}', ("stage 1, across", 'no key "over"')),

@@ -19,13 +19,16 @@ LENT = "the program lends 32,768 bytes of work, 16,384 row values, 16,384 sums a
 # Names that a careless script takes for options, for standard input, for several words or for less than they are.
 NAMES = ("-n", "-", "--help", "a b", "*", "$(date)", "a\nb", "ends in a line\n", "\udcff", "a: b", "=")
 
-# One stage that is accepted, and one for each refusal that a stage causes, with what is said of it.
+# Stages that are accepted, and one for each refusal that a stage causes, with what is said of it.
 GOOD = bytes.fromhex("03 01 00 01 01")
+OUTLINE = bytes.fromhex("06 01 00")
 BAD = (
     (11, GOOD[:-1], ": it ends with byte %d"),
-    (13, bytes.fromhex("06 01 00 01 01"), ", kind: found 6"),
+    (11, bytes.fromhex("06 01"), ": it ends with byte %d"),
+    (13, bytes.fromhex("07 01 00 01 01"), ", kind: found 7"),
     (13, bytes.fromhex("03 04 00 01 01"), ", border: found 4"),
     (13, bytes.fromhex("03 01 07 01 01"), ", border value: found 7"),
+    (13, bytes.fromhex("06 02 09"), ", border value: found 9"),
     (14, bytes.fromhex("03 01 00 10 00"), ", across: found 16"),
     (14, bytes.fromhex("04 01 00 0F FF"), ", down: found 255"),
     (14, bytes.fromhex("01 01 00 01 01 0001 0000 00 00 0001 0001"), ", divisor: found 0"),
@@ -117,10 +120,11 @@ def stages(calls):
     """The stage at fault is the first, one in between or the last, whatever the still is."""
     written(calls.at("no still"), b"P7")
     for number, bad, found in BAD:
-        for place, count in ((1, 1), (2, 3), (8, 8)):
-            after = b"" if number == 11 else GOOD * (count - place)
-            written(calls.at("bad recipe"), bytes([count]) + GOOD * (place - 1) + bad + after)
-            said = " (stage %d%s)" % (place, found % (len(GOOD) * place) if "%" in found else found)
+        for good, place, count in ((GOOD, 1, 1), (GOOD, 2, 3), (OUTLINE, 3, 4), (GOOD, 8, 8)):
+            after = b"" if number == 11 else good * (count - place)
+            recipe = bytes([count]) + good * (place - 1) + bad + after
+            written(calls.at("bad recipe"), recipe)
+            said = " (stage %d%s)" % (place, found % len(recipe) if "%" in found else found)
             for still in ("-still", "no still"):
                 where = "refusal %d at stage %d of %d, %s" % (number, place, count, still)
                 calls.refuses(where, (still, "bad recipe", "unmade"), "bad recipe", number, said)

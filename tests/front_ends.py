@@ -20,11 +20,12 @@ from tally import Words
 # `lines`: it prints `ok W H channels T` or `no N` on standard output, as the program does. Python prints `T N`, and of a failure nothing.
 FrontEnd = collections.namedtuple("FrontEnd", "name command lines")
 
-# One still, one recipe of two stages whose second is refused, one of three whose last two are, one of three whose last is cut off.
+# One still, one recipe of two stages whose second is refused, one of three whose last two are, one of three whose last is cut off, one of outlines whose last is refused.
 STILL, RECIPE, OUT, OLD = program.STILL, program.RECIPE, program.OUT, b"old " * 25
 BAD_RANK = bytes.fromhex("02 03 01 00 01 01 05 01 00 01 01 00 0A")
 BAD_TWICE = bytes.fromhex("03 03 01 00 01 01 05 01 00 01 01 00 0A 03 01 00 10 01")
 BAD_CUT = bytes.fromhex("03 03 01 00 01 01 04 01 00 01 01 03 01 00 01")
+BAD_OUTLINE = bytes.fromhex("03 06 01 00 06 00 09 06 02 07")
 
 # A disk with room for nothing that the tests write: a few pages, filled.
 SMALL = "size=16k"
@@ -161,6 +162,13 @@ def large(calls):
         calls.tally.equal(calls.where("a large still: out"), bytes_of(os.path.join(room, "out")), still)
 
 
+def outlines(calls):
+    """The shortest recipe. In one row that stands for all, 10 20 40, an outline is three times the right neighbour less the left; nothing is rounded."""
+    with laid(recipe=holding(bytes.fromhex("01 06 01 00"))) as room:
+        calls.said("an outline", calls.run(["still", "recipe", "out"], room), 0, "ok 3 1 1 0" if calls.front.lines else "T 0")
+        calls.tally.equal(calls.where("an outline: out"), bytes_of(os.path.join(room, "out")), STILL[:-3] + bytes([30, 90, 60]))
+
+
 def follows_links(calls):
     """A link stays a link, and what it names gets the bytes, whether that was there or not."""
     for what, lay in (("a link", holding(OLD)), ("a link to nothing", nothing)):
@@ -205,6 +213,8 @@ def refuses(calls):
         ("a position in stage 2", {"recipe": holding(BAD_RANK)}, "no 18", ("recipe", "refused with 18: a rank's position", "stage 2"), "position: found 10"),
         ("a position in stage 2, and a radius in stage 3", {"recipe": holding(BAD_TWICE)}, "no 18", ("recipe", "refused with 18: a rank's position", "stage 2")),
         ("a recipe cut in stage 3", {"recipe": holding(BAD_CUT)}, "no 11", ("recipe", "refused with 11: the recipe ends", "stage 3")),
+        ("an outline in stage 3", {"recipe": holding(BAD_OUTLINE)}, "no 13", ("recipe", "refused with 13: a kind is not 1 to 6", "stage 3"), "border value: found 7"),
+        ("an outline without its end", {"recipe": holding(BAD_OUTLINE[:-1])}, "no 11", ("recipe", "refused with 11: the recipe ends", "stage 3")),
         ("an empty recipe", {"recipe": holding(b"")}, "no 11", ("recipe", "refused with 11")),
         ("nine stages", {"recipe": holding(b"\x09" + RECIPE[1:])}, "no 10", ("recipe", "refused with 10: the number of stages"), "found 9"),
         ("a byte too much", {"recipe": holding(RECIPE + b"\0")}, "no 12", ("recipe", "refused with 12: the recipe goes on"), "last stage ends with byte 6"),
@@ -344,7 +354,7 @@ def try_front_ends(tally):
     with folders.fresh_folder() as room:
         for front in installed(room):
             calls = Calls(tally, front)
-            for part in (accepts, large, follows_links, writes_to_pipes, wrong_usage, refuses, cannot_read, cannot_write, full_disk, faulty_disk, unprintable):
+            for part in (accepts, large, outlines, follows_links, writes_to_pipes, wrong_usage, refuses, cannot_read, cannot_write, full_disk, faulty_disk, unprintable):
                 part(calls)
             if runs_for_everybody(front.command, room):
                 closed_to_writing(calls)

@@ -229,11 +229,24 @@ def recipes(tally, room):
     ratios = listed(printed(text[text.index("Ratios with"):], "01 "))
     said, out = filtered(room, program.STILL[:-3] + bytes([8, 16, 40]), ratios)
     tally.equal("the recipe of ratios", (Words(said[:8]), out and out[-3:]), ("ok 3 1 1", bytes([10, 24, 46])))
+    # One row that stands for all: three times the right neighbour less the left, 16 - 8, 40 - 8, 40 - 16.
+    outline = listed(printed(text[text.index("An outline, byte"):], "01 "))
+    said, out = filtered(room, program.STILL[:-3] + bytes([8, 16, 40]), outline)
+    tally.equal("the recipe of an outline", (said, out and out[-3:]), ("ok 3 1 1 0\n", bytes([24, 96, 72])))
+
+
+def outline_kernels(tally, room):
+    """The kernels of an outline as they are printed: each by a still of 3 by 3 that is bright where it has 1 and dark where it has -1, so no other sum is as large."""
+    rows = [list(map(int, line.split())) for line in printed(section("Recipes"), "-1 ")]
+    for k in range(0, 12, 3):
+        kernel = [weight for row in rows for weight in row[k:k + 3]]
+        said, out = filtered(room, b"P5\n3 3\n255\n" + bytes(20 + 20 * weight for weight in kernel), b"\x01\x06\x01\x00")
+        tally.equal("the outline's kernel %d" % (k // 3 + 1), (said, out and out[-5]), ("ok 3 3 1 0\n", sum(20 * abs(weight) for weight in kernel)))
 
 
 def try_readme(tally):
     """Each example in a folder of its own, so that none finds what another has made. One that is not there is a failure and stops no other."""
-    for example in (from_shell, sizes, recipes, from_c, c_program, from_python, python_commands, python_commands_on, from_rust, rust_program):
+    for example in (from_shell, sizes, recipes, outline_kernels, from_c, c_program, from_python, python_commands, python_commands_on, from_rust, rust_program):
         with folders.fresh_folder() as room:
             stand_in(room)
             try:

@@ -88,9 +88,10 @@ A description is a list of 1 to 8 stages:
   [{"kind": "binomial", "across": 1, "down": 1},
    {"kind": "box", "across": 2, "down": 2, "border": {"constant": 20}},
    {"kind": "rank", "across": 1, "down": 1, "position": "median", "border": "mirror"},
+   {"kind": "outline", "border": "wrap"},
    {"kind": "ratios", "across": {"over": 4, "taps": {"left": 1, "here": 2, "right": 1}}, "down": {"over": 1, "taps": {"here": 1}}},
    {"kind": "reals", "across": {"-1": 0.25, "0": 0.5, "1": 0.25}, "down": {"0": 1}}]
-kind      binomial, box, rank (radii 0 to 15), ratios (whole weights over a divisor), reals (weights as binary32)
+kind      binomial, box, rank (radii 0 to 15), outline (no radii: 3 by 3), ratios (whole weights over a divisor), reals (weights as binary32)
 border    nearest (where none is given), mirror, wrap, {"constant": VALUE} with a value from 0 to 255
 position  of a rank: smallest, median, largest, or a number from 1
 taps      offsets from -15 to 15; across also left, here, right; down also up, here, down""", make_recipe),
@@ -100,8 +101,8 @@ With --into, filters each STILL into a file of the same name in FOLDER, which is
 A file that was there before is replaced as a whole, or is left as it was.""", filter_stills),
     "explain": Word(("explain RECIPE [--json]",), 1, ("--json",), """\
 Prints what a recipe does: for each stage its kind, its border, how many offsets it looks at, from which to which, the sum and the gain of its weights
-on each axis, and T after it, in 65,536ths and in grey levels; then what T means for a movement limit. `~` marks a number that is shortened.
-With --json the same for programs, sums and gains as exact texts.""", explain),
+on each axis (`-` for a rank and an outline, which have none), and T after it, in 65,536ths and in grey levels; then what an outline does to T, and what T
+means for a movement limit. `~` marks a number that is shortened. With --json the same for programs, sums and gains as exact texts.""", explain),
     "describe": Word(("describe RECIPE",), 1, (), """\
 Prints a description of a recipe, in JSON, that gives the same bytes. A weight is shown as it is held.""", describe),
 }

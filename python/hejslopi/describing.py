@@ -7,7 +7,7 @@ from typing import Any, Dict, List
 from .calls import BytesLike, read_recipe, taken
 from .descriptions import named_positions, recipe as recipe_of
 from .kernels import window
-from .stage_bytes import AXES, Stage, read_stages
+from .stage_bytes import Stage, axes_held, read_stages
 
 
 def axis_described(stage: Stage, axis: str) -> Any:
@@ -20,7 +20,7 @@ def axis_described(stage: Stage, axis: str) -> Any:
 
 def stage_described(stage: Stage) -> Dict[str, Any]:
     described: Dict[str, Any] = {"kind": stage.kind}
-    for axis in AXES:
+    for axis in axes_held(stage.kind):
         described[axis] = axis_described(stage, axis)
     if stage.kind == "rank":
         position = stage.one("position")

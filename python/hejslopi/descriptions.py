@@ -10,7 +10,7 @@ from typing import Any, Dict, List, NamedTuple, Tuple
 from .kernels import area
 from .messages import close_to, place_of, shown
 from .reals import Rounded, real_weight
-from .stage_bytes import AXES, BORDERS, KINDS, MOST_OFFSET, MOST_RADIUS, MOST_STAGES, MOST_TAPS, Number, Values, stage_bytes
+from .stage_bytes import AXES, BORDERS, KINDS, MOST_OFFSET, MOST_RADIUS, MOST_STAGES, MOST_TAPS, Number, Values, axes_held, stage_bytes
 from .values import Mistake, keyed, one_of, whole
 
 PLACES = {"across": {"left": -1, "here": 0, "right": 1}, "down": {"up": -1, "here": 0, "down": 1}}
@@ -100,10 +100,10 @@ def stage_of(number: int, given: Any, rounded: List[Rounded]) -> bytes:
     if not isinstance(given, dict) or "kind" not in given:
         raise Mistake(place, shown(given) if not isinstance(given, dict) else 'no key "kind"', 'an object as {"kind": "box", "across": 1, "down": 1}')
     kind = one_of(place + ", kind", given["kind"], KINDS)
-    keyed(place, given, ("kind", *AXES, *(("position",) if kind == "rank" else ())), ("border",))
+    keyed(place, given, ("kind", *axes_held(kind), *(("position",) if kind == "rank" else ())), ("border",))
     border, border_value = border_values(place + ", border", given.get("border", "nearest"))
     values: Values = {("kind", ""): [KINDS[kind]], ("border", ""): [border], ("border value", ""): [border_value]}
-    for axis in AXES:
+    for axis in axes_held(kind):
         for name, held in AXIS_VALUES[kind](place_of(number, axis), axis, given[axis], rounded).items():
             values[name, axis] = held
     if kind == "rank":
@@ -134,6 +134,7 @@ def recipe(stages: Any) -> bytes:
         {"kind": "binomial", "across": 1, "down": 1, "border": "nearest"}                  radii across and down
         {"kind": "box", "across": 2, "down": 2, "border": {"constant": 20}}                a border value of 20
         {"kind": "rank", "across": 1, "down": 1, "position": "median"}                     or a number from 1, "smallest", "largest"
+        {"kind": "outline"}                                                                no radii: it looks at 3 by 3 samples
         {"kind": "ratios", "across": {"over": 4, "taps": {"left": -1, "here": 4, "right": 1}}, "down": {"over": 1, "taps": {"here": 1}}}
         {"kind": "reals", "across": {"-1": 0.25, "0": 0.5, "1": 0.25}, "down": {"0": 1.0}}
 

@@ -5,7 +5,7 @@ from typing import Any, Dict, List
 
 from .calls import BytesLike, read_recipe, taken
 from .describing import stage_described, stages_of
-from .kernels import fraction_text, gain, short_text, weights, window
+from .kernels import OUTLINE_GAIN, OUTLINE_OFFSETS, fraction_text, gain, short_text, weights, window
 from .stage_bytes import AXES, Stage
 
 UNITS = 65536
@@ -21,6 +21,8 @@ def tolerance_after(recipe: bytes, stage: Stage) -> int:
 
 def offsets(stage: Stage, axis: str) -> List[int]:
     """The offsets that a stage looks at on an axis."""
+    if stage.kind == "outline":
+        return list(OUTLINE_OFFSETS)
     if ("radius", axis) in stage.values:
         radius = int(stage.one("radius", axis))
         return list(range(-radius, radius + 1))
@@ -28,7 +30,7 @@ def offsets(stage: Stage, axis: str) -> List[int]:
 
 
 def axis_explained(stage: Stage, axis: str) -> Dict[str, Any]:
-    """The offsets of an axis, and exactly, as texts, the sum and the gain of its weights. A rank has no weights."""
+    """The offsets of an axis, and exactly, as texts, the sum and the gain of its weights. A rank and an outline have none."""
     held = weights(stage, axis)
     return {"offsets": offsets(stage, axis), "sum": fraction_text(sum(held)) if held else None, "gain": fraction_text(gain(stage, axis)) if held else None}
 
@@ -40,6 +42,8 @@ def stage_explained(recipe: bytes, stage: Stage) -> Dict[str, Any]:
         explained[axis] = axis_explained(stage, axis)
     if stage.kind == "rank":
         explained["position"], explained["window"] = stage.one("position"), window(stage)
+    if stage.kind == "outline":
+        explained["growth"] = OUTLINE_GAIN
     explained.update({"tolerance": tolerance, "grey_levels": tolerance / UNITS, "description": stage_described(stage)})
     return explained
 
@@ -48,7 +52,8 @@ def explain(recipe: BytesLike) -> Dict[str, Any]:
     """What an accepted recipe does. One that is refused raises `Refusal`.
 
     `tolerance` is T in 65,536ths of a grey level, `grey_levels` the same in grey levels. Between two stills filtered by this recipe no sample can surely be
-    still under a movement limit below `least_movement_limit`, in grey levels. `says_nothing`: T is all 255 grey levels.
+    still under a movement limit below `least_movement_limit`, in grey levels. `says_nothing`: T is all 255 grey levels. `growth`, of an outline: how many times
+    as large as before it makes T, up to all 255 grey levels.
     """
     given = taken("recipe", recipe)
     tolerance = read_recipe(given).tolerance
@@ -87,6 +92,13 @@ def row(stage: Dict[str, Any]) -> List[str]:
     return [str(stage["stage"]), kind, border, *axes, str(stage["tolerance"]), levels_text(stage["tolerance"])]
 
 
+def growth_of(stages: List[Dict[str, Any]]) -> List[str]:
+    """What an outline does to T, which no sum or gain of its row tells, in a sentence."""
+    if not any("growth" in stage for stage in stages):
+        return []
+    return ["Behind an outline T is %d times what it was before it, at most all 255 grey levels: each of its four sums weighs six samples by 1 or -1." % OUTLINE_GAIN]
+
+
 HEADINGS = ["stage", "kind", "border", "across", "sum", "gain", "down", "sum", "gain", "T", "levels"]
 
 
@@ -106,4 +118,4 @@ def explanation_text(explained: Dict[str, Any]) -> str:
     rows = [HEADINGS] + [row(stage) for stage in explained["stages"]]
     widths = [max(len(line[k]) for line in rows) for k in range(len(HEADINGS))]
     table = ["  ".join(cell.ljust(width) for cell, width in zip(line, widths)).rstrip() for line in rows]
-    return "\n".join(table + [""] + meaning_of(explained["tolerance"]))
+    return "\n".join(table + [""] + growth_of(explained["stages"]) + meaning_of(explained["tolerance"]))

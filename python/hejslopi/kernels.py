@@ -6,6 +6,9 @@ from typing import List
 
 from .stage_bytes import Stage
 
+# An outline has no weights on an axis: its four kernels look at 3 by 3 samples, and six weights of each are 1 or -1, the others 0.
+OUTLINE_OFFSETS, OUTLINE_GAIN = (-1, 0, 1), 6
+
 
 def area(across: int, down: int) -> int:
     """How many samples a window of these radii has."""
@@ -18,7 +21,7 @@ def window(stage: Stage) -> int:
 
 
 def weights(stage: Stage, axis: str) -> List[Fraction]:
-    """The weights of an axis as they are held; of a binomial and of a box, which hold none, their sum alone, 1; of a rank none."""
+    """The weights of an axis as they are held; of a binomial and of a box, which hold none, their sum alone, 1; of a rank and an outline none."""
     if stage.kind in ("binomial", "box"):
         return [Fraction(1)]
     divisor = int(stage.values.get(("divisor", axis), [1])[0])

@@ -13,7 +13,7 @@ MEANINGS = {
     10: "the number of stages is 0 or over 8",
     11: "the recipe ends before a field is complete",
     12: "the recipe goes on after its last stage",
-    13: "a kind is not 1 to 5, a border is over 3, or a border other than constant has a value that is not 0",
+    13: "a kind is not 1 to 6, a border is over 3, or a border other than constant has a value that is not 0",
     14: "an axis has 0 or over 31 taps, a divisor is 0, a radius is over 15, or a plane's recipe has several stages",
     15: "an offset is not -15 to 15, or not above the one before it",
     16: "the size of a real weight is neither 0 nor from 2^-12 to 4",

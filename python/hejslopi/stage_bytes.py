@@ -4,7 +4,7 @@ from __future__ import annotations
 import struct
 from typing import Dict, Iterator, List, NamedTuple, Optional, Tuple, Union
 
-KINDS = {"ratios": 1, "reals": 2, "binomial": 3, "box": 4, "rank": 5}
+KINDS = {"ratios": 1, "reals": 2, "binomial": 3, "box": 4, "rank": 5, "outline": 6}
 BORDERS = {"constant": 0, "nearest": 1, "mirror": 2, "wrap": 3}
 AXES = ("across", "down")
 
@@ -26,12 +26,13 @@ HEAD = (Item("kind", "B", "stage"), Item("border", "B", "stage"), Item("border v
 RADII = (Item("radius", "B", "axis"),)
 
 # What follows the head, by kind. A field of an axis or of its taps comes for across first, then for down.
-LAYOUTS = {
+LAYOUTS: Dict[str, Tuple[Item, ...]] = {
     "ratios": (Item("taps", "B", "axis"), Item("divisor", "H", "axis"), Item("offset", "b", "tap"), Item("weight", "h", "tap")),
     "reals": (Item("taps", "B", "axis"), Item("offset", "b", "tap"), Item("weight", "f", "tap")),
     "binomial": RADII,
     "box": RADII,
     "rank": RADII + (Item("position", "H", "stage"),),
+    "outline": (),
 }
 
 
@@ -76,6 +77,11 @@ def axes_of(item: Item, values: Values) -> List[str]:
     if item.per == "stage":
         return [""]
     return [axis for axis in AXES for _ in range(int(values["taps", axis][0]) if item.per == "tap" else 1)]
+
+
+def axes_held(kind: str) -> Tuple[str, ...]:
+    """The axes that a stage of this kind has fields for: both, or none as an outline."""
+    return AXES if any(item.per != "stage" for item in LAYOUTS[kind]) else ()
 
 
 def kind_of(values: Values) -> str:

@@ -77,6 +77,7 @@ fn recipes() -> Vec<(&'static str, Vec<u8>)> {
         ("rank 3x3", one(&[5, 1, 0, 1, 1, 0, 5])),
         ("rank 7x7", one(&[5, 1, 0, 3, 3, 0, 25])),
         ("rank 31x31", one(&[5, 1, 0, 15, 15, 1, 225])),
+        ("outline", one(&[6, 1, 0])),
         ("eight stages", eight),
     ]
 }
@@ -128,7 +129,7 @@ fn main() {
     let table = Table { peers };
     println!("Nanoseconds a sample, border nearest, grey: the best of several runs on one core, buffers warm and not cleared.");
     println!("`=`: the same samples on this picture; `~`: not all the same.");
-    println!("Plain Rust does the same arithmetic throughout, OpenCV and SciPy in boxes and ranks; in stages of weights theirs is only similar.\n");
+    println!("Plain Rust does the same arithmetic throughout, OpenCV and SciPy in boxes, ranks and outlines; in stages of weights theirs is only similar.\n");
     println!("| work             | size     |   library | plain Rust |  ratio |     OpenCV |      SciPy |");
     println!("|------------------|----------|----------:|-----------:|-------:|-----------:|-----------:|");
     for (work, recipe) in recipes() {

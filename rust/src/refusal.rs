@@ -70,7 +70,7 @@ impl fmt::Display for Refusal {
             Refusal::StageCount => "the number of stages is 0 or over 8",
             Refusal::Cut => "the recipe ends before a field is complete",
             Refusal::Trailing => "the recipe goes on after its last stage",
-            Refusal::Kind => "a kind is not 1 to 5, a border is over 3, or a border other than constant has a value that is not 0",
+            Refusal::Kind => "a kind is not 1 to 6, a border is over 3, or a border other than constant has a value that is not 0",
             Refusal::Count => "an axis has 0 or over 31 taps, a divisor is 0, a radius is over 15, or a plane's recipe has several stages",
             Refusal::Offset => "an offset is not -15 to 15, or not above the one before it",
             Refusal::RealWeight => "the size of a real weight is neither 0 nor from 2^-12 to 4",

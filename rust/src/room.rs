@@ -69,16 +69,17 @@ pub fn needs(recipe: &[u8], width: usize, height: usize) -> Result<Needs, Refusa
     let mut at = 1;
     for _ in 0..stages {
         let field = |k: usize| recipe[at + k] as usize;
-        let taps = field(3) + field(4);
+        let taps = || field(3) + field(4);
         at += match field(0) {
-            1 => 9 + 3 * taps,
-            2 => 5 + 5 * taps,
+            1 => 9 + 3 * taps(),
+            2 => 5 + 5 * taps(),
             3 => 5,
             4 => {
                 sums = sums.max((width + 2 * field(3) + 1) * (height + 2 * field(4) + 1));
                 5
             }
             5 => 7,
+            6 => 3,
             kind => panic!(
                 "the library accepts stages of kind {kind}, and `needs` has no length for them"
             ),

@@ -71,6 +71,7 @@ fn every_short_recipe_is_read_alike() {
             try_one(&[1, 4, 0, a, b]);
             try_one(&[1, 4, a, b, 0, 0]);
             try_one(&[1, 5, 1, 0, 1, 2, a, b]);
+            try_one(&[1, 6, a, b]);
             try_one(&[1, 1, 0, 9, 1, 1, 0, 1, 0, 1, a, b, 0, 1, 0, 1]);
             try_one(&[1, 2, 2, 0, 1, 1, 0, 0, a, b, 0, 0, 0x3F, 0x80, 0, 0]);
             try_one(&[1, 2, 2, 0, 1, 1, 0, 0, 0x3F, 0x80, 0, 0, a, b, 0, 1]);
@@ -282,6 +283,7 @@ fn longest_sides_are_filtered_alike() {
                 &[3, border, 0, 15, 15][..],
                 &[4, border, 0, 15, 15],
                 &[5, border, 0, 2, 2, 0, 9],
+                &[6, border, 0],
             ] {
                 let recipe = [&[1], work].concat();
                 let stages = reference::read_recipe(&recipe).unwrap();
@@ -310,11 +312,9 @@ fn a_bright_large_frame_is_filtered_alike() {
 }
 
 /// Demand 3: what is written lies within T of the exact result, and T is what is told.
-#[test]
-fn written_samples_lie_within_the_tolerance() {
-    compare("demand 3", 5_000, |rng, tally| {
-        let stages = rng.size(1, 8);
-        let recipe = inputs::recipe(rng, stages);
+fn within_the_tolerance(name: &str, count: u64, recipe: impl Fn(&mut Rng) -> Vec<u8>) {
+    compare(name, count, |rng, tally| {
+        let recipe = recipe(rng);
         let Ok(stages) = reference::read_recipe(&recipe) else {
             return Ok(());
         };
@@ -338,4 +338,17 @@ fn written_samples_lie_within_the_tolerance() {
             )),
         }
     });
+}
+
+#[test]
+fn written_samples_lie_within_the_tolerance() {
+    within_the_tolerance("demand 3", 5_000, |rng| {
+        let stages = rng.size(1, 8);
+        inputs::recipe(rng, stages)
+    });
+}
+
+#[test]
+fn written_outlines_lie_within_the_tolerance() {
+    within_the_tolerance("demand 3, outlines", 2_000, inputs::outlined_recipe);
 }

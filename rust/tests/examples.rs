@@ -69,6 +69,47 @@ fn bench_stills() {
     assert_eq!(hejslopi::read_recipe(&two).unwrap().tolerance, 67579);
 }
 
+/// One row: with nearest, mirror and wrap it stands above and below too, so its difference counts three times; with a constant of 0 once.
+#[test]
+fn outlines_of_a_row() {
+    assert_eq!(plane(&[1, 6, 1, 0], &BENCH), (vec![30, 90, 60], 0));
+    assert_eq!(plane(&[1, 6, 2, 0], &BENCH), (vec![30, 90, 60], 0));
+    assert_eq!(plane(&[1, 6, 3, 0], &BENCH), (vec![60, 90, 30], 0));
+    assert_eq!(plane(&[1, 6, 0, 0], &BENCH), (vec![20, 30, 20], 0));
+    assert_eq!(plane(&[1, 6, 1, 0], &[0, 0, 86]), (vec![0, 255, 255], 0));
+    assert_eq!(plane(&[1, 6, 1, 0], &[85, 0, 0]), (vec![255, 255, 0], 0));
+    assert_eq!(plane(&[1, 6, 1, 0], &[84, 0, 0]), (vec![252, 252, 0], 0));
+}
+
+/// Three samples of 9 on one side of the middle, on each of the eight: the kernel for that side counts all three, each other one two at most.
+#[test]
+fn outlines_of_every_side() {
+    let around = [0, 1, 2, 5, 8, 7, 6, 3];
+    for side in 0..8 {
+        let mut samples = [0; 9];
+        for k in 0..3 {
+            samples[around[(side + k) % 8]] = 9;
+        }
+        let done = hejslopi::filter_plane(&[1, 6, 1, 0], 3, 3, &samples).unwrap();
+        assert_eq!(done.samples[4], 27, "{samples:?}");
+    }
+    // a single corner counts once, whichever kernel sees it, and the middle not at all
+    let done = hejslopi::filter_plane(&[1, 6, 1, 0], 3, 3, &[9, 0, 0, 0, 200, 0, 0, 0, 0]);
+    assert_eq!(done.unwrap().samples[4], 9);
+}
+
+/// A box has T 32,768. Each outline makes six times as much of it, up to 255 grey levels, and of nothing nothing.
+#[test]
+fn outlines_make_t_six_times_as_large() {
+    let outlines = |count: usize| [6, 1, 0].repeat(count);
+    for (count, expected) in [(0, 32768), (1, 196608), (3, 7_077_888), (4, 16_711_680)] {
+        let recipe = [&[count as u8 + 1, 4, 1, 0, 1, 1], &outlines(count)[..]].concat();
+        assert_eq!(hejslopi::read_recipe(&recipe).unwrap().tolerance, expected);
+    }
+    let alone = [&[8], &outlines(8)[..]].concat();
+    assert_eq!(hejslopi::read_recipe(&alone).unwrap().tolerance, 0);
+}
+
 #[test]
 fn the_reference_gives_the_papers_weights() {
     let weights = |a, d| match &reference::read_recipe(&ratios(a, d)).unwrap()[0].work {
@@ -192,7 +233,7 @@ fn vectors() {
         }
         tried += 1;
     }
-    assert!(tried >= 274, "{tried} vectors");
+    assert!(tried >= 346, "{tried} vectors");
 }
 
 #[test]
@@ -250,13 +291,14 @@ fn wrappers() {
 /// What `needs` says is enough, whatever kinds of stages stand before a box, and one sum less is not.
 #[test]
 fn needs_are_exact() {
-    let mut recipe = vec![6, 4, 1, 0, 2, 1];
+    let mut recipe = vec![7, 4, 1, 0, 2, 1];
     recipe.extend(&ratios([1, 1, 1], 3)[1..]);
     recipe.extend([
         2, 1, 0, 1, 2, 0, 0, 1, 0x3F, 0x80, 0, 0, 0x3F, 0, 0, 0, 0x3F, 0, 0, 0,
     ]);
     recipe.extend([3, 2, 0, 1, 1]);
     recipe.extend([5, 3, 0, 1, 1, 0, 5]);
+    recipe.extend([6, 0, 9]);
     recipe.extend([4, 0, 9, 3, 4]);
     let still = hejslopi::write_still(20, 10, 1, &[100; 200]).unwrap();
     let needs = hejslopi::needs(&recipe, 20, 10).unwrap();
@@ -272,6 +314,9 @@ fn needs_are_exact() {
         hejslopi::filter_file_into(&recipe, &still, short.lend(), &mut out),
         Err(Refusal::Room)
     );
+    // an outline has no byte behind its header to look at, and needs no sums
+    let outline = hejslopi::needs(&[1, 6, 1, 0], 20, 10).unwrap();
+    assert_eq!((outline.work, outline.rows, outline.sums), (400, 800, 0));
 }
 
 #[test]
@@ -291,7 +336,9 @@ fn refusals_have_numbers_and_words() {
 /// Calls in several threads at once, each with 128 KiB of stack, over shared inputs.
 #[test]
 fn threads_with_small_stacks() {
-    let recipe = [3, 3, 1, 0, 15, 15, 4, 2, 0, 15, 15, 5, 3, 0, 1, 1, 0, 5];
+    let recipe = [
+        4, 3, 1, 0, 15, 15, 4, 2, 0, 15, 15, 5, 3, 0, 1, 1, 0, 5, 6, 0, 9,
+    ];
     let raster: Vec<u8> = (0..8192 * 4).map(|k| (k * k >> 7) as u8).collect();
     let still = hejslopi::write_still(8192, 4, 1, &raster).unwrap();
     let alone = hejslopi::filter_file(&recipe, &still).unwrap();

@@ -2,13 +2,16 @@
 use hejslopi::{faulty_stage, read_recipe, Refusal};
 
 const BOX: &[u8] = &[4, 1, 0, 1, 1];
+const OUTLINE: &[u8] = &[6, 1, 0];
 
 /// A stage for each way to be wrong.
-const WRONG: [(&[u8], Refusal); 13] = [
+const WRONG: [(&[u8], Refusal); 15] = [
     (&[0, 1, 0, 1, 1], Refusal::Kind),
-    (&[6, 1, 0, 1, 1], Refusal::Kind),
+    (&[7, 1, 0, 1, 1], Refusal::Kind),
     (&[3, 4, 0, 1, 1], Refusal::Kind),
     (&[3, 1, 9, 1, 1], Refusal::Kind),
+    (&[6, 4, 0], Refusal::Kind),
+    (&[6, 2, 9], Refusal::Kind),
     (&[4, 1, 0, 1, 16], Refusal::Count),
     (&[1, 1, 0, 0, 1, 0, 1, 0, 1, 0, 0, 1], Refusal::Count),
     (&[2, 1, 0, 1, 32, 0], Refusal::Count),
@@ -40,9 +43,9 @@ fn recipe(count: u8, stages: &[&[u8]]) -> Vec<u8> {
 #[test]
 fn each_fault_in_each_place() {
     for (wrong, refusal) in WRONG {
-        for count in [1, 2, 8] {
+        for (right, count) in [(BOX, 1), (BOX, 2), (BOX, 8), (OUTLINE, 8)] {
             for place in 1..=count {
-                let mut stages = vec![BOX; count];
+                let mut stages = vec![right; count];
                 stages[place - 1] = wrong;
                 let recipe = recipe(count as u8, &stages);
                 assert_eq!(read_recipe(&recipe), Err(refusal), "{recipe:?}");
@@ -61,13 +64,14 @@ fn the_first_of_several_faults() {
 /// A recipe that is cut says so of the stage it is cut in, or of the first that is missing.
 #[test]
 fn cut() {
-    let whole = recipe(3, &[BOX, &[5, 1, 0, 1, 1, 0, 5], BOX]);
+    let whole = recipe(4, &[BOX, &[5, 1, 0, 1, 1, 0, 5], OUTLINE, BOX]);
     assert_eq!(faulty_stage(&whole), None);
     for length in 1..whole.len() {
         let stage = match length {
             1..=5 => 1,
             6..=12 => 2,
-            _ => 3,
+            13..=15 => 3,
+            _ => 4,
         };
         assert_eq!(read_recipe(&whole[..length]), Err(Refusal::Cut));
         assert_eq!(faulty_stage(&whole[..length]), Some(stage), "{length}");
@@ -79,11 +83,13 @@ fn cut() {
 fn no_stage_is_at_fault() {
     assert_eq!(faulty_stage(&[]), None);
     for stages in [1, 2, 8] {
-        let accepted = recipe(stages, &vec![BOX; stages as usize]);
-        assert_eq!(faulty_stage(&accepted), None);
-        let trailing = [&accepted[..], &[0]].concat();
-        assert_eq!(read_recipe(&trailing), Err(Refusal::Trailing));
-        assert_eq!(faulty_stage(&trailing), None);
+        for stage in [BOX, OUTLINE] {
+            let accepted = recipe(stages, &vec![stage; stages as usize]);
+            assert_eq!(faulty_stage(&accepted), None);
+            let trailing = [&accepted[..], &[0]].concat();
+            assert_eq!(read_recipe(&trailing), Err(Refusal::Trailing));
+            assert_eq!(faulty_stage(&trailing), None);
+        }
     }
     // a wrong number of stages, though the first is wrong too
     for count in [0, 9, 255] {

@@ -34,7 +34,7 @@ use Rattle.program_filter.specs.Program.{programLent, programAnswer}
 
 module _ (W H : ℕ) where
   -- of a stage after its header bytes
-  table-most : (kind : ℕ) (b : List ℕ) → 1 ≤ kind → kind ≤ 5 → verdict (workTests kind b) ≡ Passed → tableSize W H (workOf kind b) ≤ (W + 31) * (H + 31)
+  table-most : (kind : ℕ) (b : List ℕ) → 1 ≤ kind → kind ≤ 6 → verdict (workTests kind b) ≡ Passed → tableSize W H (workOf kind b) ≤ (W + 31) * (H + 31)
   unfolding tableSize workOf weightedWork
   table-most zero b l h e = absurd (omega (arith, l))
   table-most (suc zero) b l h e = omega arith
@@ -45,7 +45,8 @@ module _ (W H : ℕ) where
       side : (n r : ℕ) → r ≤ 15 → n + 2 * r + 1 ≤ n + 31
       side n r k = omega (arith, k)
   table-most (suc (suc (suc (suc (suc zero))))) b l h e = omega arith
-  table-most (suc (suc (suc (suc (suc (suc k)))))) b l h e = absurd (omega (arith, h))
+  table-most (suc (suc (suc (suc (suc (suc zero)))))) b l h e = omega arith
+  table-most (suc (suc (suc (suc (suc (suc (suc k))))))) b l h e = absurd (omega (arith, h))
 
   stages-most : (k : ℕ) (b : List ℕ) → AllPass (stagesTests k b) → sumNeed W H (stagesOf k b) ≤ (W + 31) * (H + 31)
   unfolding stagesTests stagesOf sumNeed stageOf stage

@@ -104,7 +104,8 @@ unfolding workTests radiusTests positionTests there
 work-numbered kind b =
     numbered-cond (eqb kind 1) (weightedTests false b) _ (weighted-numbered false b)
     (numbered-cond (eqb kind 2) (weightedTests true b) _ (weighted-numbered true b)
-    (numbered-cond (eqb kind 5) (radiusTests b ++ positionTests b) (radiusTests b) refl refl))
+    (numbered-cond (eqb kind 5) (radiusTests b ++ positionTests b) _ refl
+    (numbered-cond (eqb kind 6) [] (radiusTests b) refl refl)))
 
 stage-numbered : (b : List ℕ) → numbered (stageTests b) ≡ true
 unfolding stageTests headTests there

@@ -4,3 +4,4 @@ pub mod Divide
 pub mod Near
 pub mod Machine
 pub mod Registers
+pub mod MulAdd

@@ -4,7 +4,7 @@ use native.Mathlib.Omega.{arith}
 use mathlib.Core.Path.{_≡_, refl, sym, _∙_, subst}
 use mathlib.Core.Bool.{Bool, true, false, not}
 use lib.Dec.{T, leb}
-use lib.IntN.{ℤ, pos, negsuc, natAbs, _+ℤ_, _*ℤ_}
+use lib.IntN.{ℤ, pos, negsuc, natAbs, _+ℤ_, _-ℤ_, _*ℤ_}
 use lib.Signed.{shrZ, mag-shr, nonNeg, ltZ, ltZ-no, leZ}
 use lib.Dec.{leb→le}
 use mir.Syntax.{Width}
@@ -41,6 +41,12 @@ module _ {w : Width} {m n : ℕ} {x y : ℤ} (p : Bits w m x) (q : Bits w n y) w
 
   pub mul-bits : SFits w (x *ℤ y) → Bits w (ofZ w (toZ w m *ℤ toZ w n)) (x *ℤ y)
   mul-bits f = both (λ (u v : ℤ). Bits w (ofZ w (u *ℤ v)) (x *ℤ y)) (of-bits f)
+
+  pub sub-fits : SFits w (x -ℤ y) → SFits w (toZ w m -ℤ toZ w n)
+  sub-fits f = both (λ (u v : ℤ). SFits w (u -ℤ v)) f
+
+  pub sub-bits : SFits w (x -ℤ y) → Bits w (ofZ w (toZ w m -ℤ toZ w n)) (x -ℤ y)
+  sub-bits f = both (λ (u v : ℤ). Bits w (ofZ w (u -ℤ v)) (x -ℤ y)) (of-bits f)
 
   -- a test of two signed numbers, as a fact of their parts
   pub lt-true : ltZ (toZ w m) (toZ w n) ≡ true → posPart x + negPart y < posPart y + negPart x

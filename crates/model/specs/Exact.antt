@@ -9,19 +9,22 @@ use Rattle.model.specs.Plane.{Plane, Neighbourhood, planeOf, around}
 use Rattle.model.specs.Kernel.{weightedSum}
 use Rattle.model.specs.Window.{area, window}
 use Rattle.model.specs.Rank.{smallest}
-use Rattle.model.specs.Stage.{Work, weighted, box, rank, Stage}
+use Rattle.model.specs.Outline.{edgeStrength}
+use Rattle.model.specs.Stage.{Work, weighted, box, rank, outline, Stage}
 
--- the N after a work: weights multiply it by the D of both kernels (2^35 of reals, 2^(2r) of a binomial of radius r), a box by its window's area; a rank keeps it
+-- the N after a work: weights multiply it by the D of both kernels (2^35 of reals, 2^(2r) of a binomial of radius r), a box by its window's area; a rank and an outline keep it
 unfoldable pub denominator : ℕ → Work → ℕ
 denominator N (weighted across down) = N * (across .divisor * down .divisor)
 denominator N (box r s) = N * area r s
 denominator N (rank r s p) = N
+denominator N outline = N
 
--- the exact result before it is clamped, as a numerator over the new N: the sum of a·a'·x over the taps of both kernels, offsets added; the sum of the window; its p-th smallest
+-- the exact result before it is clamped, as a numerator over the new N: the sum of a·a'·x over the taps of both kernels, offsets added; the sum of the window; its p-th smallest; the edge strength
 unfoldable pub numerator : Work → Neighbourhood → ℤ
 numerator (weighted across down) x = weightedSum (down .taps) (λ j. weightedSum (across .taps) (λ i. pos (x i j)))
 numerator (box r s) x = pos (sum (window r s x))
 numerator (rank r s p) x = pos (smallest p (window r s x))
+numerator outline x = pos (edgeStrength (window 1 1 x))
 
 -- an exact stage from N to N', the new denominator: its border value is brought to N, as value·N, and no numerator stays below 0 or above 255·N'
 unfoldable pub exactPlane : ℕ → ℕ → ℕ → Stage → Plane → Plane

@@ -1,6 +1,6 @@
 -- Worked examples. `bench` has the starred cases of 'Bench stills' and, not starred there, the T of its first line; `details` pins what those and the
--- tolerance leave open.
--- A row names the case, what the definitions give for its input, and what they should give. The theorem at the end goes over all rows of both.
+-- tolerance leave open, and `outlines` the kind of request 2026-01.
+-- A row names the case, what the definitions give for its input, and what they should give. The theorem at the end goes over all rows.
 use Prim.Native.Nat.{ℕ, _^_}
 use Prim.Native.String.{String}
 use mathlib.Core.List.{List, [], _∷_, _++_, map}
@@ -19,7 +19,8 @@ use Rattle.model.specs.Weighted.{rowValue, weightedResult}
 use Rattle.model.specs.Window.{area, window}
 use Rattle.model.specs.Box.{boxResult}
 use Rattle.model.specs.Rank.{insert, sort, smallest, rankResult}
-use Rattle.model.specs.Stage.{Work, weighted, box, rank, Stage, stage, written, result, stagePlane}
+use Rattle.model.specs.Outline.{outlineKernels, response, largest, edgeStrength, outlineResult}
+use Rattle.model.specs.Stage.{Work, weighted, box, rank, outline, Stage, stage, written, result, stagePlane}
 use Rattle.model.specs.Tolerance.{tolerance, scaledGain, weightedGrowth, growth, afterStage, toleranceFrom}
 use Rattle.model.specs.Exact.{exact, exactDenominator, denominator, numerator, exactPlane, exactFrom, denominatorFrom}
 
@@ -157,12 +158,45 @@ details =
     (fractions 9 (410 ∷ 210 ∷ 470 ∷ []))
     ∷ []
 
+-- the middle sample of a plane of 3 by 3 after an outline stage
+unfoldable pub outlined : List ℕ → Answer
+outlined plane = samples (stagePlane 3 3 (stage constant 0 outline) (planeOf 3 plane) 1 1 ∷ [])
+
+-- binomial 1,1, then outlines
+unfoldable pub smoothed : List Work → List Work
+smoothed ws = weighted (binomial 1) (binomial 1) ∷ ws
+
+-- Request 2026-01, worked by hand. The responses of the four kernels, in their order:
+-- 177, 24, 96, 140; 24, 207, -116, 160; 120, -76, 147, 24; -98, -140, 22, -177; 20, -20, 30, 0; and 270, 0, 180, 180, where 270 is clamped;
+-- one row of 10 20 40: the rows above and below are the same row, so the first kernel gives three times the difference of the two sides;
+-- 34,811 times 6, and again, until the fourth passes the cut; exact: 40, 230 and 420 thirds, whose differences are 190, 380 and 190, and 3·380 is clamped to 765.
+unfoldable pub outlines : List Example
+outlines =
+    row "the first kernel's" (outlined (1 ∷ 20 ∷ 60 ∷ 2 ∷ 30 ∷ 61 ∷ 3 ∷ 40 ∷ 62 ∷ [])) (samples (177 ∷ []))
+    ∷ row "the second's" (outlined (1 ∷ 2 ∷ 3 ∷ 20 ∷ 30 ∷ 40 ∷ 70 ∷ 71 ∷ 72 ∷ [])) (samples (207 ∷ []))
+    ∷ row "the third's" (outlined (20 ∷ 50 ∷ 51 ∷ 1 ∷ 30 ∷ 52 ∷ 2 ∷ 3 ∷ 40 ∷ [])) (samples (147 ∷ []))
+    ∷ row "the fourth's, below 0" (outlined (62 ∷ 61 ∷ 40 ∷ 60 ∷ 30 ∷ 3 ∷ 20 ∷ 2 ∷ 1 ∷ [])) (samples (177 ∷ []))
+    ∷ row "a corner, the third's" (outlined (0 ∷ 10 ∷ 10 ∷ 0 ∷ 0 ∷ 10 ∷ 0 ∷ 0 ∷ 0 ∷ [])) (samples (30 ∷ []))
+    ∷ row "clamped" (outlined (0 ∷ 0 ∷ 90 ∷ 0 ∷ 0 ∷ 90 ∷ 0 ∷ 0 ∷ 90 ∷ [])) (samples (255 ∷ []))
+    ∷ row "outline, nearest" (filtered 3 1 nearest 0 outline (10 ∷ 20 ∷ 40 ∷ [])) (samples (30 ∷ 90 ∷ 60 ∷ []))
+    ∷ row "outline, constant 0" (filtered 3 1 constant 0 outline (10 ∷ 20 ∷ 40 ∷ [])) (samples (20 ∷ 30 ∷ 20 ∷ []))
+    ∷ row "outline, wrap" (filtered 3 1 wrap 0 outline (10 ∷ 20 ∷ 40 ∷ [])) (samples (60 ∷ 90 ∷ 30 ∷ []))
+    ∷ row "outline twice" (samples (written 3 1 (stage nearest 0 outline ∷ stage nearest 0 outline ∷ []) (10 ∷ 20 ∷ 40 ∷ []))) (samples (180 ∷ 90 ∷ 90 ∷ []))
+    ∷ row "T of an outline" (tolerances (toleranceOf (outline ∷ []) ∷ [])) (tolerances (0 ∷ []))
+    ∷ row "T of binomial 1,1 and one to four outlines"
+    (tolerances (toleranceOf (smoothed (outline ∷ [])) ∷ toleranceOf (smoothed (outline ∷ outline ∷ [])) ∷ toleranceOf (smoothed (outline ∷ outline ∷ outline ∷ [])) ∷ toleranceOf (smoothed (outline ∷ outline ∷ outline ∷ outline ∷ [])) ∷ []))
+    (tolerances (208866 ∷ 1253196 ∷ 7519176 ∷ 16711680 ∷ []))
+    ∷ row "exact box, then outline"
+    (exactly 3 1 (stage nearest 0 (box 1 0) ∷ stage nearest 0 outline ∷ []) (10 ∷ 20 ∷ 200 ∷ []))
+    (fractions 3 (570 ∷ 765 ∷ 570 ∷ []))
+    ∷ []
+
 -- every definition that an example runs through, opened by one name
 opened : Unit {0}
-unfolding modulo ceilDiv clamp sum sumℤ tabulate raster count inside closest reflected supply planeOf pick around tap kernel weightedSum total magnitude pairSums pascalRow choose binomial quotient remainder wantedTotal lacking comesBefore getsUnit share apportion rowValue weightedResult area window boxResult insert sort smallest rankResult stage result stagePlane written scaledGain weightedGrowth growth afterStage toleranceFrom tolerance denominator numerator exactPlane exactFrom denominatorFrom exact exactDenominator row filtered exactly apportioned toleranceOf supplied minus three one two alone quadruple above
+unfolding modulo ceilDiv clamp sum sumℤ tabulate raster count inside closest reflected supply planeOf pick around tap kernel weightedSum total magnitude pairSums pascalRow choose binomial quotient remainder wantedTotal lacking comesBefore getsUnit share apportion rowValue weightedResult area window boxResult insert sort smallest rankResult outlineKernels response largest edgeStrength outlineResult stage result stagePlane written scaledGain weightedGrowth growth afterStage toleranceFrom tolerance denominator numerator exactPlane exactFrom denominatorFrom exact exactDenominator row filtered exactly apportioned toleranceOf supplied minus three one two alone quadruple above outlined smoothed
 opened = tt
 
 -- THE WORKED EXAMPLES HOLD, by computation
-pub examples-hold : map (λ e. e .found) (bench ++ details) ≡ map (λ e. e .expected) (bench ++ details)
-unfolding opened bench details
+pub examples-hold : map (λ e. e .found) (bench ++ details ++ outlines) ≡ map (λ e. e .expected) (bench ++ details ++ outlines)
+unfolding opened bench details outlines
 examples-hold = refl

@@ -1,4 +1,4 @@
--- Document 01's arithmetic, definitions only. Read the files in this order; each names the term of docs/METHOD.md's section that it defines.
+-- The arithmetic of document 01 and of the requests that landed, definitions only. Read the files in this order; each names the term of docs/METHOD.md's section that it defines.
 --
 -- Words that come from the two crates below:
 --   floorDiv z m     z / m rounded down               tabulate f n     the list f 0, f 1, .., f (n - 1)
@@ -18,6 +18,7 @@ pub mod Weighted
 pub mod Window
 pub mod Box
 pub mod Rank
+pub mod Outline
 pub mod Stage
 pub mod Tolerance
 pub mod Exact

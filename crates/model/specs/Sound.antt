@@ -4,12 +4,13 @@ use Prim.Native.Nat.{ℕ, _≤_, _<_}
 use mathlib.Core.List.{List, [], _∷_}
 use lib.ListN.{getD}
 use Rattle.model.specs.Window.{area}
-use Rattle.model.specs.Stage.{Work, weighted, box, rank, Stage}
+use Rattle.model.specs.Stage.{Work, weighted, box, rank, outline, Stage}
 
 abbrev pub SoundWork : Work → Type 0
 SoundWork (weighted across down) = (0 < across .divisor) × (0 < down .divisor)
 SoundWork (box r s) = Unit {0}
 SoundWork (rank r s p) = (1 ≤ p) × (p ≤ area r s)
+SoundWork outline = Unit {0}
 
 abbrev pub Sound : List Stage → Type 0
 Sound [] = Unit {0}

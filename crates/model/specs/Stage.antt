@@ -8,12 +8,14 @@ use Rattle.model.specs.Kernel.{Kernel}
 use Rattle.model.specs.Weighted.{weightedResult}
 use Rattle.model.specs.Box.{boxResult}
 use Rattle.model.specs.Rank.{rankResult}
+use Rattle.model.specs.Outline.{outlineResult}
 
--- 'The three kinds of work': two kernels, across and down; radii r, s; radii r, s and position p
+-- 'The three kinds of work', and the outline of request 2026-01: two kernels, across and down; radii r, s; radii r, s and position p; nothing
 pub data Work : Type 0 where
   weighted : Kernel → Kernel → Work
   box : ℕ → ℕ → Work
   rank : ℕ → ℕ → ℕ → Work
+  outline : Work
 
 -- a stage: its border, its border value and its work
 pub record Stage : Type 0 where
@@ -29,6 +31,7 @@ unfoldable pub result : Work → Neighbourhood → ℕ
 result (weighted across down) f = weightedResult across down f
 result (box r s) f = boxResult r s f
 result (rank r s p) f = rankResult r s p f
+result outline f = outlineResult f
 
 -- a stage on a plane of W by H
 unfoldable pub stagePlane : ℕ → ℕ → Stage → Plane → Plane

@@ -4,7 +4,7 @@ use mathlib.Core.List.{List, [], _∷_}
 use lib.ListN.{length}
 use Rattle.integers.specs.Divide.{ceilDiv}
 use Rattle.model.specs.Kernel.{Kernel, magnitude}
-use Rattle.model.specs.Stage.{Work, weighted, box, rank, Stage}
+use Rattle.model.specs.Stage.{Work, weighted, box, rank, outline, Stage}
 
 -- g1 of the horizontal kernel, g2 of the vertical one: 65,536 times its gain, rounded up
 unfoldable pub scaledGain : Kernel → ℕ
@@ -18,11 +18,12 @@ weightedGrowth g1 g2 n m T =
     + ceilDiv (m * (255 * g1 + 255 * n + 512)) 65536
     + 32768
 
--- T after a work, before it is cut: a box adds half a level, a rank nothing
+-- T after a work, before it is cut: a box adds half a level, a rank nothing; an outline adds up six samples, and rounds nothing
 unfoldable pub growth : Work → ℕ → ℕ
 growth (weighted across down) T = weightedGrowth (scaledGain across) (scaledGain down) (length (across .taps)) (length (down .taps)) T
 growth (box r s) T = T + 32768
 growth (rank r s p) T = T
+growth outline T = 6 * T
 
 -- T after a stage: at most 16,711,680, which is 255 levels
 unfoldable pub afterStage : ℕ → Stage → ℕ

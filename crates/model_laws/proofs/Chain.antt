@@ -15,7 +15,7 @@ use Rattle.lists.proofs.Pairs.{pairs-at, pairs-raster}
 use Rattle.model.specs.Border.{Border}
 use Rattle.model.specs.Plane.{Plane, Neighbourhood, planeOf, pick, around}
 use Rattle.model.specs.Weighted.{weightedResult}
-use Rattle.model.specs.Stage.{Work, weighted, box, rank, Stage, result, stagePlane, written}
+use Rattle.model.specs.Stage.{Work, weighted, box, rank, outline, Stage, result, stagePlane, written}
 use Rattle.model.specs.Tolerance.{growth, afterStage, toleranceFrom, tolerance}
 use Rattle.model.specs.Exact.{denominator, numerator, exactPlane, exactFrom, denominatorFrom, exact, exactDenominator}
 use Rattle.model.specs.Within.{distance, Within}
@@ -24,6 +24,7 @@ use Rattle.model_laws.proofs.Weighted.{Close, weighted-close}
 use Rattle.model_laws.proofs.Window.{area-pos}
 use Rattle.model_laws.proofs.Box.{box-le, box-close}
 use Rattle.model_laws.proofs.Rank.{rank-le, rank-close}
+use Rattle.model_laws.proofs.Outline.{outline-le, outline-close}
 
 -- ---- the frame rule supplies to two planes alike, whatever it is
 
@@ -45,12 +46,14 @@ unfolding result weightedResult
 result-le (weighted across down) f o b = clamp-le 255 _
 result-le (box r s) f o b = box-le r s f b
 result-le (rank r s p) f o b = rank-le r s p (o .0) (o .1) f b
+result-le outline f o b = outline-le f
 
 denominator-pos : (w : Work) (N : ℕ) → SoundWork w → 0 < N → 0 < denominator N w
 unfolding denominator
 denominator-pos (weighted across down) N o h = mul-pos h (mul-pos (o .0) (o .1))
 denominator-pos (box r s) N o h = mul-pos h (area-pos r s)
 denominator-pos (rank r s p) N o h = h
+denominator-pos outline N o h = h
 
 result-close : (w : Work) (N T : ℕ) (f x : Neighbourhood) → SoundWork w → 0 < N → ((i j : ℤ) → f i j ≤ 255) → ((i j : ℤ) → Close T N (pos (f i j)) (pos (x i j)))
     → Close (growth w T) (denominator N w) (pos (result w f)) (pos (clamp (255 * denominator N w) (numerator w x)))
@@ -58,6 +61,7 @@ unfolding growth denominator result numerator
 result-close (weighted across down) N T f x o hN b c = weighted-close across down N T (o .0) (o .1) f x b c
 result-close (box r s) N T f x o hN b c = box-close r s N T f x b c
 result-close (rank r s p) N T f x o hN b c = rank-close r s p N T hN (o .0) (o .1) f x b c
+result-close outline N T f x o hN b c = outline-close N T f x c
 
 -- a tolerance of 255 levels or more says nothing, so it can be cut there
 cut : (most T N y x : ℕ) → 255 * 65536 ≤ most → y ≤ 255 → x ≤ 255 * N → Close T N (pos y) (pos x) → Close (min T most) N (pos y) (pos x)

@@ -7,5 +7,6 @@ pub mod Weighted
 pub mod Window
 pub mod Box
 pub mod Rank
+pub mod Outline
 pub mod Chain
 pub mod Bounds

@@ -13,9 +13,10 @@ use Rattle.model.specs.Kernel.{Kernel}
 use Rattle.model.specs.Weighted.{weightedResult}
 use Rattle.model.specs.Box.{boxResult}
 use Rattle.model.specs.Rank.{rankResult}
+use Rattle.model.specs.Outline.{outlineResult}
 use Rattle.model.specs.Stage as Model
 use Rattle.stage_values.specs.declared.Window.{Window}
-use Rattle.stage_values.specs.declared.Work.the-variants.{Weighted, Boxed, Ranked}
+use Rattle.stage_values.specs.declared.Work.the-variants.{Weighted, Boxed, Ranked, Outlined}
 use Rattle.stage_values.specs.declared.Stage.{Stage}
 use Rattle.stage_values.specs.Stands.{Does, Stands}
 use Rattle.frame.specs.declared.Frame.{Frame}
@@ -68,3 +69,7 @@ module _ (w h : ℕ) (s : Stage) where
       pub rank-plane : worked frameOf (rankResult (x .r) (x .s) p) samples ≡ made
       unfolding Model.stagePlane Model.result worked
       rank-plane = rw (rank-does .0, k .border, k .value)
+
+    pub outline-plane : s .work ≡ Outlined → worked frameOf outlineResult samples ≡ made
+    unfolding Model.stagePlane Model.result worked
+    outline-plane e = let d : Does Outlined s (t .work) = rw e at (k .work) in rw (d, k .border, k .value)

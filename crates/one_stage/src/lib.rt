@@ -38,5 +38,8 @@ pub fn run_stage(s: Stage, w: usize, h: usize, work: &mut [u8], rows: &mut [i32]
         Work::Ranked(window, p) => {
             ranks::rank_stage(frame, window, p, work);
         }
+        Work::Outlined => {
+            outlines::outline_stage(frame, work);
+        }
     }
 }

@@ -1,3 +1,1 @@
-pub mod StoredAt
-pub mod Planes
 pub mod RankWindow

@@ -24,18 +24,6 @@ fn ranked(frame: Frame, window: Window, p: usize, plane: &[u8], u: usize, v: usi
     histograms::level_at(&counts, p)
 }
 
-// The plane of n samples at the front of `work` once more behind itself.
-fn keep(work: &mut [u8], n: usize)
-    requires { ⌜ n + n ≤ length (now work) ⌝ }
-    ensures { λ _. ⌜ now (work .exit) ≡ take n (now (work .entry)) ++ take n (now (work .entry)) ++ drop (n + n) (now (work .entry)) ⌝ }
-{
-    let mut i = 0;
-    while i < n {
-        work[n + i] = work[i];
-        i += 1;
-    }
-}
-
 // Row v of a rank stage, stored in the plane at the front of `work`. The plane behind it holds the samples before.
 fn rank_row(frame: Frame, window: Window, p: usize, v: usize, work: &mut [u8])
     requires { ⌜ Framed frame (take (frame .height * frame .width) (drop (frame .height * frame .width) (now work))) × (v < frame .height) × (window .r ≤ 15) × (window .s ≤ 15) × (1 ≤ p) × (p ≤ area (window .r) (window .s)) ⌝ }
@@ -60,7 +48,7 @@ pub fn rank_stage(frame: Frame, window: Window, p: usize, work: &mut [u8])
 {
     let w = frame.width;
     let h = frame.height;
-    keep(work, h * w);
+    kept_planes::keep(work, h * w);
     let mut v = 0;
     while v < h {
         rank_row(frame, window, p, v, work);

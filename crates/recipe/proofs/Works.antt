@@ -1,10 +1,10 @@
 -- T after a stage that the code holds is T after the stage that it stands for. Assumes nothing.
-use Prim.Native.Nat.{ℕ, _+_, _≤_, min}
+use Prim.Native.Nat.{ℕ, _+_, _*_, _≤_, min}
 use mathlib.Core.Path.{_≡_, sym, _∙_}
 use Rattle.model.specs.Stage as Model
 use Rattle.model.specs.Tolerance.{weightedGrowth, afterStage}
-use Rattle.tolerance.proofs.Growth.{after-weighted, after-box, after-rank}
-use Rattle.stage_values.specs.declared.Work.the-variants.{Weighted, Boxed, Ranked}
+use Rattle.tolerance.proofs.Growth.{after-weighted, after-box, after-rank, after-outline}
+use Rattle.stage_values.specs.declared.Work.the-variants.{Weighted, Boxed, Ranked, Outlined}
 use Rattle.stage_values.specs.declared.Stage.{Stage}
 use Rattle.stage_values.specs.declared.Window.{Window}
 use Rattle.stage_values.specs.Stands.{Does, Stands}
@@ -30,3 +30,6 @@ module _ (s : Stage) (t : Model.Stage) (h : Stands s t) where
 
   pub rank-after : (T : ℕ) {x : Window} {p units : ℕ} → s .work ≡ Ranked x p → units ≡ min T 16711680 → units ≡ afterStage T t
   rank-after T {x} {p} e f = let d : Does (Ranked x p) s (t .work) = rw e at (h .work) in f ∙ sym (after-rank T t (d .0))
+
+  pub outline-after : (T : ℕ) {units : ℕ} → s .work ≡ Outlined → units ≡ min (6 * T) 16711680 → units ≡ afterStage T t
+  outline-after T e f = let d : Does Outlined s (t .work) = rw e at (h .work) in f ∙ sym (after-outline T t d)

@@ -23,6 +23,7 @@ fn after(total: Tolerance, s: Stage) -> Tolerance
         Work::Weighted => total.after_weighted(across.gain, down.gain, across.len, down.len),
         Work::Boxed(_) => total.after_box(),
         Work::Ranked(_, _) => total.after_rank(),
+        Work::Outlined => total.after_outline(),
     }
 }
 

@@ -61,25 +61,26 @@ module _ (b : List ℕ) where
   unfolding workTests
   position-kind e = position-passed b (all-append (radiusTests b) (positionTests b) (all-pass (radiusTests b ++ positionTests b) e) .1)
 
-  -- kinds 4 and 5: the work is that of the bytes, and the tests bound its radii and its position
-  pub window-does : (kind : ℕ) → 4 ≤ kind → kind ≤ 5 → verdict (workTests kind b) ≡ Passed → (w : Code.Work) → w ≡ windowOf kind b → (s : Stage) → Does w s (workOf kind b)
+  -- kinds 4 to 6: the work is that of the bytes, and the tests bound its radii and its position
+  pub window-does : (kind : ℕ) → 4 ≤ kind → kind ≤ 6 → verdict (workTests kind b) ≡ Passed → (w : Code.Work) → w ≡ windowOf kind b → (s : Stage) → Does w s (workOf kind b)
   unfolding workOf windowOf
   window-does zero l h v w e s = absurd (omega arith)
   window-does (suc zero) l h v w e s = absurd (omega arith)
   window-does (suc (suc zero)) l h v w e s = absurd (omega arith)
   window-does (suc (suc (suc zero))) l h v w e s = absurd (omega arith)
-  window-does (suc (suc (suc (suc zero)))) l h v w e s = let r = radii-kind 4 (omega arith) h v in rw e (refl, r .0, r .1)
-  window-does (suc (suc (suc (suc (suc zero))))) l h v w e s = let r = radii-kind 5 (omega arith) h v in let p = position-kind v in rw e (refl, r .0, r .1, p .0, p .1)
-  window-does (suc (suc (suc (suc (suc (suc k)))))) l h v w e s = absurd (omega arith)
+  window-does (suc (suc (suc (suc zero)))) l h v w e s = let r = radii-kind 4 (omega arith) (omega arith) v in rw e (refl, r .0, r .1)
+  window-does (suc (suc (suc (suc (suc zero))))) l h v w e s = let r = radii-kind 5 (omega arith) (omega arith) v in let p = position-kind v in rw e (refl, r .0, r .1, p .0, p .1)
+  window-does (suc (suc (suc (suc (suc (suc zero)))))) l h v w e s = rw e refl
+  window-does (suc (suc (suc (suc (suc (suc (suc k))))))) l h v w e s = absurd (omega arith)
 
   -- the lengths of the other kinds
-  pub window-length : (kind : ℕ) → 3 ≤ kind → (kind ≡ 5 → ⊥) → workLength kind b ≡ 2
+  pub window-length : (kind : ℕ) → 3 ≤ kind → (kind ≡ 5 → ⊥) → (kind ≡ 6 → ⊥) → workLength kind b ≡ 2
   unfolding workLength
-  window-length kind l n = rw (ne-eqb kind 1 (λ e. omega (arith, e)), ne-eqb kind 2 (λ e. omega (arith, e)), ne-eqb kind 5 n)
+  window-length kind l n m = rw (ne-eqb kind 1 (λ e. omega (arith, e)), ne-eqb kind 2 (λ e. omega (arith, e)), ne-eqb kind 5 n, ne-eqb kind 6 m)
 
 -- ---- a stage
 
-pub head-known : (b : List ℕ) → verdict (headTests b) ≡ Passed → (1 ≤ at b 0) × (at b 0 ≤ 5) × (at b 1 ≤ 3) × (3 ≤ length b)
+pub head-known : (b : List ℕ) → verdict (headTests b) ≡ Passed → (1 ≤ at b 0) × (at b 0 ≤ 6) × (at b 1 ≤ 3) × (3 ≤ length b)
 head-known b e = head-passed b (all-pass (headTests b) e)
 
 pub stage-parts : (b : List ℕ) → verdict (stageTests b) ≡ Passed → (verdict (headTests b) ≡ Passed) × (verdict (workTests (at b 0) (drop 3 b)) ≡ Passed)
@@ -88,10 +89,10 @@ stage-parts b e =
     let p = all-append (headTests b) (workTests (at b 0) (drop 3 b)) (all-pass (stageTests b) e) in
     (passed-all (headTests b) (p .0), passed-all (workTests (at b 0) (drop 3 b)) (p .1))
 
--- what a stage that passes has: a kind from 1 to 5, three header bytes, and fields that pass in the part that follows them
+-- what a stage that passes has: a kind from 1 to 6, three header bytes, and fields that pass in the part that follows them
 pub record Known (b : List ℕ) : Type 0 where
   pub low : 1 ≤ at b 0
-  pub high : at b 0 ≤ 5
+  pub high : at b 0 ≤ 6
   pub there : 3 ≤ length b
   pub fields : verdict (workTests (at b 0) (take (length b - 3) (drop 3 b))) ≡ Passed
 

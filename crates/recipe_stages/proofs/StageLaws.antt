@@ -27,7 +27,7 @@ weighted-passed real b p =
     let s = sizes-passed real b (all-append (sizeTests real b) _ taps .0) in
     (s .4, s .5)
 
-pub work-passed : (kind : ℕ) (b : List ℕ) → 1 ≤ kind → kind ≤ 5 → AllPass (workTests kind b) → SoundWork (workOf kind b)
+pub work-passed : (kind : ℕ) (b : List ℕ) → 1 ≤ kind → kind ≤ 6 → AllPass (workTests kind b) → SoundWork (workOf kind b)
 unfolding workTests workOf binomial kernel
 work-passed zero b h k p = absurd (omega arith)
 work-passed (suc zero) b h k p = weighted-passed false b p
@@ -35,7 +35,8 @@ work-passed (suc (suc zero)) b h k p = weighted-passed true b p
 work-passed (suc (suc (suc zero))) b h k p = (pow-pos (2 * at b 0), pow-pos (2 * at b 1))
 work-passed (suc (suc (suc (suc zero)))) b h k p = tt
 work-passed (suc (suc (suc (suc (suc zero))))) b h k p = let w = position-passed b (all-append (radiusTests b) (positionTests b) p .1) in (w .0, w .1)
-work-passed (suc (suc (suc (suc (suc (suc n)))))) b h k p = absurd (omega arith)
+work-passed (suc (suc (suc (suc (suc (suc zero)))))) b h k p = tt
+work-passed (suc (suc (suc (suc (suc (suc (suc n))))))) b h k p = absurd (omega arith)
 
 pub stage-passed : (b : List ℕ) → Bytes b → AllPass (stageTests b) → SoundWork (stageOf b .work) × (stageOf b .value ≤ 255)
 unfolding stageTests stageOf stage

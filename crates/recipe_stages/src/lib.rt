@@ -29,6 +29,9 @@ fn work_tests(part: &[u8], kind: u8) -> Verdict
     if kind == 5 {
         return refusals::both(stage_fields::radii(part), stage_fields::position(part));
     }
+    if kind == 6 {
+        return Verdict::Passed;
+    }
     stage_fields::radii(part)
 }
 
@@ -44,7 +47,7 @@ pub fn tests(part: &[u8]) -> Verdict
 
 // How many bytes follow the header bytes.
 fn work_length(part: &[u8], kind: u8) -> usize
-    requires { ⌜ (1 ≤ kind) × (kind ≤ 5) × (verdict (workTests kind (now part)) ≡ Passed) ⌝ }
+    requires { ⌜ (1 ≤ kind) × (kind ≤ 6) × (verdict (workTests kind (now part)) ≡ Passed) ⌝ }
     ensures { λ r. ⌜ (r ≡ workLength kind (now (part .entry))) × (r ≤ length (now (part .entry))) × (r ≤ 8192) ⌝ }
 {
     if kind <= 2 {
@@ -52,6 +55,9 @@ fn work_length(part: &[u8], kind: u8) -> usize
     }
     if kind == 5 {
         return 4;
+    }
+    if kind == 6 {
+        return 0;
     }
     2
 }
@@ -100,11 +106,14 @@ fn axis_for(part: &[u8], kind: u8, axis: usize) -> Axis
     kernels::axis_of(recipe_kernels::kernel_on(part, kind == 2, axis))
 }
 
-// The work of a box or a rank, after its header bytes.
+// The work of a box, a rank or an outline, after its header bytes.
 fn window_work(part: &[u8], kind: u8) -> Work
-    requires { ⌜ (4 ≤ kind) × (kind ≤ 5) × (verdict (workTests kind (now part)) ≡ Passed) ⌝ }
+    requires { ⌜ (4 ≤ kind) × (kind ≤ 6) × (verdict (workTests kind (now part)) ≡ Passed) ⌝ }
     ensures { λ r. ⌜ r ≡ windowOf kind (now (part .entry)) ⌝ }
 {
+    if kind == 6 {
+        return Work::Outlined;
+    }
     let window = Window {
         r: wide(part[0]),
         s: wide(part[1]),
@@ -117,7 +126,7 @@ fn window_work(part: &[u8], kind: u8) -> Work
 
 // The stage of a kind, after its header bytes.
 fn stage_of(part: &[u8], kind: u8, border: Border, value: u8) -> Stage
-    requires { ⌜ (1 ≤ kind) × (kind ≤ 5) × (verdict (workTests kind (now part)) ≡ Passed) ⌝ }
+    requires { ⌜ (1 ≤ kind) × (kind ≤ 6) × (verdict (workTests kind (now part)) ≡ Passed) ⌝ }
     ensures { λ r. ⌜ Stands r (stage (borderIs border) value (workOf kind (now (part .entry)))) ⌝ }
 {
     if kind <= 3 {

@@ -8,9 +8,9 @@ use Rattle.model.specs.Window.{area}
 use Rattle.recipe_bytes.specs.Bytes.{at, word, there}
 use Rattle.stage_fields.specs.StageFields.{headTests, radiusTests, positionTests}
 
-pub head-passed : (b : List ℕ) → AllPass (headTests b) → (1 ≤ at b 0) × (at b 0 ≤ 5) × (at b 1 ≤ 3) × (3 ≤ length b)
+pub head-passed : (b : List ℕ) → AllPass (headTests b) → (1 ≤ at b 0) × (at b 0 ≤ 6) × (at b 1 ≤ 3) × (3 ≤ length b)
 unfolding headTests there
-head-passed b p = let k = between 1 (at b 0) 5 (p .1 .0) in (k .0, k .1, leb-true (at b 1) 3 (p .1 .1 .1 .0), leb-true 3 (length b) (p .1 .1 .1 .1 .0))
+head-passed b p = let k = between 1 (at b 0) 6 (p .1 .0) in (k .0, k .1, leb-true (at b 1) 3 (p .1 .1 .1 .0), leb-true 3 (length b) (p .1 .1 .1 .1 .0))
 
 pub radius-passed : (b : List ℕ) → AllPass (radiusTests b) → (at b 0 ≤ 15) × (at b 1 ≤ 15) × (2 ≤ length b)
 unfolding radiusTests there

@@ -8,10 +8,10 @@ use Rattle.refusals.specs.Refusal.{Test}
 use Rattle.model.specs.Window.{area}
 use Rattle.recipe_bytes.specs.Bytes.{at, word, field}
 
--- the header bytes: the kind, 1 to 5; the border, 0 to 3; and a border value, which only the constant border may have other than 0
+-- the header bytes: the kind, 1 to 6; the border, 0 to 3; and a border value, which only the constant border may have other than 0
 unfoldable pub headTests : List ℕ → List Test
 headTests b =
-    field b 1 (leb 1 (at b 0) && leb (at b 0) 5) Refusal.kind
+    field b 1 (leb 1 (at b 0) && leb (at b 0) 6) Refusal.kind
     ++ field b 2 (leb (at b 1) 3) Refusal.kind
     ++ field b 3 (eqb (at b 1) 0 || eqb (at b 2) 0) Refusal.kind
 

@@ -16,7 +16,7 @@ pub fn head(part: &[u8]) -> Verdict
     if part[0] < 1 {
         return Verdict::Refused(refusals::KIND);
     }
-    if 5 < part[0] {
+    if 6 < part[0] {
         return Verdict::Refused(refusals::KIND);
     }
     if part.len() < 2 {

@@ -19,6 +19,7 @@ pub enum Work {
     Weighted,
     Boxed(Window),
     Ranked(Window, usize),
+    Outlined,
 }
 
 // The taps of one axis: offsets 15 too large, weights in 65,536ths, and 65,536 times the gain, rounded up.

@@ -4,7 +4,7 @@ use native.Mathlib.Nat.{mul-le-mul}
 use native.Mathlib.Omega.{arith}
 use mathlib.Core.Path.{_≡_}
 use Rattle.model.specs.Stage as Model
-use Rattle.stage_values.specs.declared.Work.the-variants.{Weighted, Boxed, Ranked}
+use Rattle.stage_values.specs.declared.Work.the-variants.{Weighted, Boxed, Ranked, Outlined}
 use Rattle.stage_values.specs.declared.Stage.{Stage}
 use Rattle.stage_values.specs.declared.Window.{Window}
 use Rattle.stage_values.specs.Stands.{Does, Stands}
@@ -22,6 +22,10 @@ module _ (w h : ℕ) (s : Stage) (t : Model.Stage) (k : Stands s t) where
   pub rank-table : {x : Window} {p : ℕ} → s .work ≡ Ranked x p → 0 ≡ tableSize w h (t .work)
   unfolding tableSize
   rank-table {x} {p} e = let d : Does (Ranked x p) s (t .work) = rw e at (k .work) in rw (d .0)
+
+  pub outline-table : s .work ≡ Outlined → 0 ≡ tableSize w h (t .work)
+  unfolding tableSize
+  outline-table e = let d : Does Outlined s (t .work) = rw e at (k .work) in rw d
 
   -- radii of a box are small
   pub box-radii : {x : Window} → s .work ≡ Boxed x → (x .r ≤ 15) × (x .s ≤ 15)

@@ -29,5 +29,6 @@ pub fn table_size(stage: Stage, w: usize, h: usize) -> usize
             table_side(w, r) * table_side(h, s)
         }
         Work::Ranked(_, _) => 0,
+        Work::Outlined => 0,
     }
 }

@@ -1,10 +1,10 @@
 -- The tolerance after a stage of each kind, and that it stays cut. Assumes nothing.
-use Prim.Native.Nat.{ℕ, _+_, _≤_, min}
+use Prim.Native.Nat.{ℕ, _+_, _*_, _≤_, min}
 use mathlib.Core.Path.{_≡_, ap}
 use native.Mathlib.Omega.{arith}
 use lib.ListN.{length}
 use Rattle.model.specs.Kernel.{Kernel}
-use Rattle.model.specs.Stage.{Work, weighted, box, rank, Stage}
+use Rattle.model.specs.Stage.{Work, weighted, box, rank, outline, Stage}
 use Rattle.model.specs.Tolerance.{scaledGain, weightedGrowth, growth, afterStage}
 
 module _ (T : ℕ) (t : Stage) where
@@ -24,6 +24,10 @@ module _ (T : ℕ) (t : Stage) where
   pub after-rank : {r s p : ℕ} → t .work ≡ rank r s p → afterStage T t ≡ min T 16711680
   unfolding growth
   after-rank h = of-work h
+
+  pub after-outline : t .work ≡ outline → afterStage T t ≡ min (6 * T) 16711680
+  unfolding growth
+  after-outline h = of-work h
 
   pub after-le : afterStage T t ≤ 16711680
   unfolding afterStage

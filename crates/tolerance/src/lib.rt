@@ -58,4 +58,12 @@ impl Tolerance {
         let units = cut(self.units);
         Tolerance { units }
     }
+
+    pub fn after_outline(self) -> Self
+        requires { ⌜ self .units ≤ 16711680 ⌝ }
+        ensures { λ r. ⌜ (r .units ≡ min (6 * self .units) 16711680) × (r .units ≤ 16711680) ⌝ }
+    {
+        let units = cut(6 * self.units);
+        Tolerance { units }
+    }
 }

@@ -1,6 +1,6 @@
 //! The exact chain: planes of whole numerators, each with one denominator for all of them.
 use super::wide::Wide;
-use super::{sample, Stage, Work};
+use super::{sample, Kernel, Stage, Work, OUTLINE};
 
 pub struct Exact {
     pub numerators: Vec<Wide>,
@@ -19,8 +19,18 @@ fn factor(work: &Work) -> Vec<i64> {
     match work {
         Work::Weighted { across, down } => vec![across.divisor, down.divisor],
         Work::Box { r, s } => vec![(2 * r + 1) * (2 * s + 1)],
-        Work::Rank { .. } => vec![],
+        Work::Rank { .. } | Work::Outline => vec![],
     }
+}
+
+/// The largest size among an outline's four sums of nine numerators, row by row.
+fn outline(numerators: &[Wide]) -> Wide {
+    let size = |kernel: &Kernel| {
+        let pairs = numerators.iter().zip(kernel.as_flattened());
+        let products = pairs.map(|(x, a)| x.times(*a));
+        products.fold(Wide::ZERO, Wide::plus).magnitude()
+    };
+    OUTLINE.iter().map(size).fold(Wide::ZERO, Wide::max)
 }
 
 pub fn after(stage: &Stage, w: usize, h: usize, before: Exact) -> Exact {
@@ -58,6 +68,7 @@ pub fn after(stage: &Stage, w: usize, h: usize, before: Exact) -> Exact {
             window.sort();
             window[*p as usize - 1]
         }
+        Work::Outline => outline(&window(1, 1, u, v)).min(highest),
     };
     let places = (0..h as i64).flat_map(|v| (0..w as i64).map(move |u| (u, v)));
     let numerators = places.map(|(u, v)| result(u, v)).collect();

@@ -25,6 +25,7 @@ pub enum Work {
     Weighted { across: Axis, down: Axis },
     Box { r: i64, s: i64 },
     Rank { r: i64, s: i64, p: i64 },
+    Outline,
 }
 
 #[derive(Clone, Debug, PartialEq, Eq)]
@@ -126,7 +127,28 @@ fn gain_units(axis: &Axis) -> i128 {
     ceil_div(65536 * magnitude(axis), axis.divisor as i128)
 }
 
-// The three kinds of work.
+// The four kinds of work.
+
+/// Three rows of weights for the samples around a place, the top row first.
+pub type Kernel = [[i64; 3]; 3];
+
+/// What an outline weighs by: a step from left to right, one from top to bottom, and one towards each corner on the right.
+pub const OUTLINE: [Kernel; 4] = [
+    [[-1, 0, 1], [-1, 0, 1], [-1, 0, 1]],
+    [[-1, -1, -1], [0, 0, 0], [1, 1, 1]],
+    [[0, 1, 1], [-1, 0, 1], [-1, -1, 0]],
+    [[-1, -1, 0], [-1, 0, 1], [0, 1, 1]],
+];
+
+/// An outline of the samples around a place, in rows as the weights are.
+fn outline(samples: [[i64; 3]; 3]) -> u8 {
+    let size = |kernel: &Kernel| {
+        let pairs = kernel.as_flattened().iter().zip(samples.as_flattened());
+        pairs.map(|(a, x)| a * x).sum::<i64>().abs()
+    };
+    let largest = OUTLINE.iter().map(size).fold(0, i64::max);
+    largest.min(255) as u8
+}
 
 pub fn filtered(stage: &Stage, w: usize, h: usize, plane: &[u8]) -> Vec<u8> {
     let f = |u: i64, v: i64| sample(plane, w, h, stage.border, &stage.border_value, u, v) as i64;
@@ -182,6 +204,10 @@ pub fn filtered(stage: &Stage, w: usize, h: usize, plane: &[u8]) -> Vec<u8> {
             };
             places.map(|(u, v)| ranked(u, v)).collect()
         }
+        Work::Outline => {
+            let around = |u: i64, v: i64| [-1, 0, 1].map(|j| [-1, 0, 1].map(|i| f(u + i, v + j)));
+            places.map(|(u, v)| outline(around(u, v))).collect()
+        }
     }
 }
 
@@ -208,6 +234,7 @@ pub fn tolerance(stages: &[Stage]) -> u64 {
             }
             Work::Box { .. } => t + 32768,
             Work::Rank { .. } => t,
+            Work::Outline => 6 * t,
         };
         t = t.min(16_711_680);
     }
@@ -301,7 +328,7 @@ impl Fields<'_> {
     }
 
     fn stage(&mut self) -> Answer<Stage> {
-        let kind = self.within(1, 5, 13)?;
+        let kind = self.within(1, 6, 13)?;
         let border = self.within(0, 3, 13)? as u8;
         let border_value = self.within(0, if border == 0 { 255 } else { 0 }, 13)? as u8;
         let work = match kind {
@@ -341,6 +368,7 @@ impl Fields<'_> {
                 }
                 Work::Rank { r, s, p }
             }
+            6 => Work::Outline,
             _ => panic!("stages of kind {kind} pass the test of the kind and are not read"),
         };
         Ok(Stage {

@@ -4,8 +4,9 @@ use crate::reference::{Stage, Work};
 
 /// Damages bytes in one to three places.
 pub fn damage(rng: &mut Rng, bytes: &mut Vec<u8>, within: usize) {
-    const TELLING: [u8; 24] = [
-        0, 1, 2, 3, 4, 5, 6, 8, 9, 10, 11, 12, 13, 15, 16, 31, 32, 35, 48, 127, 128, 240, 241, 255,
+    const TELLING: [u8; 25] = [
+        0, 1, 2, 3, 4, 5, 6, 7, 8, 9, 10, 11, 12, 13, 15, 16, 31, 32, 35, 48, 127, 128, 240, 241,
+        255,
     ];
     for _ in 0..rng.size(1, 3) {
         if bytes.is_empty() {
@@ -133,8 +134,9 @@ fn position(rng: &mut Rng, bytes: &mut Vec<u8>, area: usize) {
     bytes.extend((p as u16).to_be_bytes());
 }
 
-fn stage(rng: &mut Rng, bytes: &mut Vec<u8>) {
-    let kind = rng.range(1, 5) as u8;
+const OUTLINE: u8 = 6;
+
+fn stage_of(kind: u8, rng: &mut Rng, bytes: &mut Vec<u8>) {
     let border = rng.range(0, 3) as u8;
     bytes.extend([kind, border, if border == 0 { rng.byte() } else { 0 }]);
     match kind {
@@ -146,8 +148,14 @@ fn stage(rng: &mut Rng, bytes: &mut Vec<u8>) {
             let area = radii(rng, bytes);
             position(rng, bytes, area);
         }
+        OUTLINE => {}
         _ => panic!("no stage of kind {kind} is made"),
     }
+}
+
+fn stage(rng: &mut Rng, bytes: &mut Vec<u8>) {
+    let kind = rng.range(1, 6) as u8;
+    stage_of(kind, rng, bytes);
 }
 
 /// A recipe that is mostly accepted.
@@ -159,12 +167,22 @@ pub fn recipe(rng: &mut Rng, stages: usize) -> Vec<u8> {
     bytes
 }
 
+/// One stage or two of any kind, and an outline of what they leave: so few that T still says something.
+pub fn outlined_recipe(rng: &mut Rng) -> Vec<u8> {
+    let before = rng.size(1, 2);
+    let mut bytes = recipe(rng, before);
+    bytes[0] += 1;
+    stage_of(OUTLINE, rng, &mut bytes);
+    bytes
+}
+
 /// About how long the reference takes for a sample, in nanoseconds.
 pub fn cost(stages: &[Stage]) -> usize {
     let one = |stage: &Stage| match &stage.work {
         Work::Weighted { across, down } => 20 + 5 * (across.taps.len() + down.taps.len()),
         Work::Box { r, s } => 20 + 3 * ((2 * r + 1) * (2 * s + 1)) as usize,
         Work::Rank { r, s, .. } => 50 + 20 * ((2 * r + 1) * (2 * s + 1)) as usize,
+        Work::Outline => 60,
     };
     stages.iter().map(one).sum::<usize>().max(20)
 }

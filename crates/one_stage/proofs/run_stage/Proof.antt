@@ -5,7 +5,7 @@ use native.Mathlib.Omega.{arith}
 use mathlib.Core.Path.{sym, _∙_}
 use lib.ListN.{take, length-take}
 use denote.Ref.{now}
-use Rattle.one_stage.proofs.Planes.{front-frame, front-put, weighted-does, weighted-plane, box-does, box-plane, box-room, rank-does, rank-plane}
+use Rattle.one_stage.proofs.Planes.{front-frame, front-put, weighted-does, weighted-plane, box-does, box-plane, box-room, rank-does, rank-plane, outline-plane}
 use borrow.Author.Needs.{needs}
 use Rattle.one_stage.proofs.run_stage.Statement.{statement}
 use Rattle.one_stage.proofs.run_stage.Tie as tie
@@ -56,6 +56,15 @@ rank-stage-requires c κs =
     let d = rank-does (a .w) (a .h) (a .s) (take (a .h * a .w) (now (a .work))) (p .6 .0) (p .6 .1) (c .before .before .kind2 .given .1) in
     (front-frame (a .w) (a .h) (a .s) (now (a .work)) (p .0) (p .1) (p .2) (p .3) (p .4), p .4, d .1, d .2, d .3, d .4)
 
+enum-told-2 : tie.Need-enum-told-2
+enum-told-2 c = search needs
+
+outline-stage-requires : tie.Need-outline-stage-requires
+outline-stage-requires c κs =
+    let a = c .before .before .before .before .before .args in
+    let p = c .before .before .before .before .before .pre in
+    (front-frame (a .w) (a .h) (a .s) (now (a .work)) (p .0) (p .1) (p .2) (p .3) (p .4), p .4)
+
 same-length : tie.Need-same-length
 same-length c = search needs
 
@@ -90,6 +99,15 @@ returns-3 c =
     let x = take (a .h * a .w) (now (a .work)) in
     λ t k. c .before .before .rank-stage .ensures ∙ rank-plane (a .w) (a .h) (a .s) x t k (c .before .before .before .before .before .kind2 .given .1)
 
+same-length-6 : tie.Need-same-length-6
+same-length-6 c = search needs
+
+returns-4 : tie.Need-returns-4
+returns-4 c =
+    let a = c .before .before .before .before .before .before .before .before .args in
+    let x = take (a .h * a .w) (now (a .work)) in
+    λ t k. c .before .before .outline-stage .ensures ∙ outline-plane (a .w) (a .h) (a .s) x t k (c .before .before .before .before .enum-told2 .given .1)
+
 pub run-stage-spec : {M : Type 1} → statement M
 run-stage-spec =
     tie.close
@@ -105,6 +123,8 @@ run-stage-spec =
     box-stage-requires
     enum-known-kind-2
     rank-stage-requires
+    enum-told-2
+    outline-stage-requires
     same-length
     same-length-2
     returns
@@ -112,4 +132,6 @@ run-stage-spec =
     same-length-4
     returns-2
     same-length-5
-    returns-3)
+    returns-3
+    same-length-6
+    returns-4)

@@ -9,8 +9,8 @@ use lib.Seq.{drop-set-lt}
 use Rattle.frame.specs.Framed.{neighbours}
 use Rattle.lists.proofs.Raster.{row-fits}
 use Rattle.model.specs.Rank.{rankResult}
-use Rattle.ranks.proofs.StoredAt.{stored, stored-none, stored-more}
-use Rattle.ranks.proofs.Planes.{part-behind, plane-behind, plane-small}
+use Rattle.kept_planes.proofs.StoredAt.{stored, stored-none, stored-more}
+use Rattle.kept_planes.proofs.Planes.{part-behind, plane-behind, plane-small}
 use borrow.Author.Needs.{needs}
 use Rattle.ranks.proofs.rank_row.Statement.{statement}
 use Rattle.ranks.proofs.rank_row.Tie as tie

@@ -10,7 +10,7 @@ use Rattle.frame.specs.Framed.{neighbours, worked}
 use Rattle.lists.specs.Tabulate.{raster}
 use Rattle.lists.proofs.Raster.{rows-none}
 use Rattle.model.specs.Rank.{rankResult}
-use Rattle.ranks.proofs.Planes.{behind-copied, behind-rows, rows-next, rows-front, plane-small}
+use Rattle.kept_planes.proofs.Planes.{behind-copied, behind-rows, rows-next, rows-front, plane-small}
 use borrow.Author.Needs.{needs}
 use Rattle.ranks.proofs.rank_stage.Statement.{statement}
 use Rattle.ranks.proofs.rank_stage.Tie as tie

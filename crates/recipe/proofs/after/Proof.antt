@@ -1,5 +1,5 @@
 -- `recipe::after` meets its contract. Assumes nothing.
-use Rattle.recipe.proofs.Works.{weighted-limits, weighted-after, box-after, rank-after}
+use Rattle.recipe.proofs.Works.{weighted-limits, weighted-after, box-after, rank-after, outline-after}
 use borrow.Author.Needs.{needs}
 use Rattle.recipe.proofs.after.Statement.{statement}
 use Rattle.recipe.proofs.after.Tie as tie
@@ -25,6 +25,12 @@ enum-told-3 c = search needs
 after-rank-requires : tie.Need-after-rank-requires
 after-rank-requires c κs = c .before .before .before .before .pre .0
 
+enum-told-4 : tie.Need-enum-told-4
+enum-told-4 c = search needs
+
+after-outline-requires : tie.Need-after-outline-requires
+after-outline-requires c κs = c .before .before .before .before .pre .0
+
 returns : tie.Need-returns
 returns c =
     let e = c .after-weighted .ensures in
@@ -40,6 +46,11 @@ returns-3 c =
     let e = c .after-rank .ensures in
     (e .1, λ t h. rank-after (c .before .before .before .before .before .args .s) t h (c .before .before .before .before .before .args .total .units) (c .before .enum-told3 .given .1) (e .0))
 
+returns-4 : tie.Need-returns-4
+returns-4 c =
+    let e = c .after-outline .ensures in
+    (e .1, λ t h. outline-after (c .before .before .before .before .before .args .s) t h (c .before .before .before .before .before .args .total .units) (c .before .enum-told4 .given .1) (e .0))
+
 pub after-spec : {M : Type 1} → statement M
 after-spec =
     tie.close
@@ -50,6 +61,9 @@ after-spec =
     after-box-requires
     enum-told-3
     after-rank-requires
+    enum-told-4
+    after-outline-requires
     returns
     returns-2
-    returns-3)
+    returns-3
+    returns-4)

@@ -16,6 +16,10 @@ five : (b : List ℕ) (kind : ℕ) → kind ≡ 5 → 4 ≡ workLength kind b
 unfolding workLength
 five b kind e = rw e
 
+six : (b : List ℕ) (kind : ℕ) → kind ≡ 6 → 0 ≡ workLength kind b
+unfolding workLength
+six b kind e = rw e
+
 length-requires : tie.Need-length-requires
 length-requires c κs =
     let a = c .before .before .args in
@@ -38,9 +42,15 @@ returns-2 c =
 
 returns-3 : tie.Need-returns-3
 returns-3 c =
-    let a = c .before .before .before .args in
-    let h = c .before .before .before .pre in
-    (sym (window-length (now (a .part)) (a .kind) (omega (arith, c .before .if1 .left)) (c .if2 .left)), radii-kind (now (a .part)) (a .kind) (omega (arith, c .before .if1 .left)) (h .1) (h .2) .2, omega arith)
+    let a = c .before .before .before .before .args in
+    (six (now (a .part)) (a .kind) (c .if3 .taken), omega arith, omega arith)
+
+returns-4 : tie.Need-returns-4
+returns-4 c =
+    let a = c .before .before .before .before .args in
+    let h = c .before .before .before .before .pre in
+    let low = c .before .before .if1 .left in
+    (sym (window-length (now (a .part)) (a .kind) (omega (arith, low)) (c .before .if2 .left) (c .if3 .left)), radii-kind (now (a .part)) (a .kind) (omega (arith, low)) (omega (arith, h .1, c .if3 .left)) (h .2) .2, omega arith)
 
 pub work-length-spec : {M : Type 1} → statement M
-work-length-spec = tie.close (tie.spec length-requires returns returns-2 returns-3)
+work-length-spec = tie.close (tie.spec length-requires returns returns-2 returns-3 returns-4)

@@ -1,7 +1,8 @@
 -- `recipe_stages::work_tests` meets its contract. Assumes nothing.
-use mathlib.Core.Path.{sym}
+use mathlib.Core.Path.{refl, sym}
 use denote.Ref.{now}
 use borrow.Author.Tests.{eq-eqb, ne-eqb}
+use Rattle.refusals.specs.Refusal.{verdict}
 use Rattle.refusals.proofs.Passed.{verdict-append}
 use Rattle.stage_fields.specs.StageFields.{radiusTests, positionTests}
 use Rattle.recipe_stages.specs.StageBytes.{workTests}
@@ -38,12 +39,16 @@ returns-3 c =
     let b = now (c .before .before .before .before .before .before .before .args .part) in
     rw (ne-eqb _ _ (c .before .before .before .before .before .if1 .left), ne-eqb _ _ (c .before .before .before .before .if2 .left), eq-eqb _ _ (c .before .before .before .if3 .taken), c .both .ensures, c .before .before .radii .ensures, c .before .position .ensures) (sym (verdict-append (radiusTests b) (positionTests b)))
 
+returns-4 : tie.Need-returns-4
+unfolding workTests verdict
+returns-4 c = rw (ne-eqb _ _ (c .before .before .before .if1 .left), ne-eqb _ _ (c .before .before .if2 .left), ne-eqb _ _ (c .before .if3 .left), eq-eqb _ _ (c .if4 .taken)) refl
+
 radii-requires-2 : tie.Need-radii-requires-2
 radii-requires-2 c κs = search needs
 
-returns-4 : tie.Need-returns-4
+returns-5 : tie.Need-returns-5
 unfolding workTests
-returns-4 c = rw (ne-eqb _ _ (c .before .before .before .if1 .left), ne-eqb _ _ (c .before .before .if2 .left), ne-eqb _ _ (c .before .if3 .left)) (c .radii2 .ensures)
+returns-5 c = rw (ne-eqb _ _ (c .before .before .before .before .if1 .left), ne-eqb _ _ (c .before .before .before .if2 .left), ne-eqb _ _ (c .before .before .if3 .left), ne-eqb _ _ (c .before .if4 .left)) (c .radii2 .ensures)
 
 pub work-tests-spec : {M : Type 1} → statement M
 work-tests-spec =
@@ -57,5 +62,6 @@ work-tests-spec =
     position-requires
     both-requires
     returns-3
+    returns-4
     radii-requires-2
-    returns-4)
+    returns-5)

@@ -1,6 +1,6 @@
 -- `table_sizes::table_size` meets its contract: by kind of work. Assumes nothing.
 use native.Mathlib.Omega.{arith}
-use Rattle.table_sizes.proofs.Tables.{weighted-table, box-table, rank-table, box-radii, table-small}
+use Rattle.table_sizes.proofs.Tables.{weighted-table, box-table, rank-table, outline-table, box-radii, table-small}
 use borrow.Author.Needs.{needs}
 use Rattle.table_sizes.proofs.table_size.Statement.{statement}
 use Rattle.table_sizes.proofs.table_size.Tie as tie
@@ -35,6 +35,9 @@ mul-result c =
 enum-told-2 : tie.Need-enum-told-2
 enum-told-2 c = search needs
 
+enum-told-3 : tie.Need-enum-told-3
+enum-told-3 c = search needs
+
 returns : tie.Need-returns
 returns c = λ t k. weighted-table _ _ (c .before .before .args .stage) t k (c .enum-told .given .1)
 
@@ -43,6 +46,9 @@ returns-2 c = λ t k. rw (c .before .table-side .ensures, c .table-side2 .ensure
 
 returns-3 : tie.Need-returns-3
 returns-3 c = λ t k. rank-table _ _ (c .before .before .args .stage) t k (c .enum-told2 .given .1)
+
+returns-4 : tie.Need-returns-4
+returns-4 c = λ t k. outline-table _ _ (c .before .before .args .stage) t k (c .enum-told3 .given .1)
 
 pub table-size-spec : {M : Type 1} → statement M
 table-size-spec =
@@ -54,6 +60,8 @@ table-size-spec =
     table-side-requires-2
     mul-result
     enum-told-2
+    enum-told-3
     returns
     returns-2
-    returns-3)
+    returns-3
+    returns-4)

@@ -1,0 +1,2 @@
+-- Squares of samples in three rows, definitions only.
+pub mod Square

@@ -1,0 +1,109 @@
+// A row of an outline stage: at each column the largest magnitude among the responses of four kernels of 3 by 3.
+ghost use mathlib.Core.Path.{_≡_};
+ghost use mathlib.Core.List.{[], _++_};
+ghost use Prim.Native.Nat.{ℕ, _+_, _≤_, _<_, min, max};
+ghost use lib.ListN.{length, getD, take, drop};
+ghost use lib.IntN.{pos, natAbs, _+ℤ_, _*ℤ_};
+ghost use Rattle.lists.specs.Tabulate.{tabulate};
+ghost use Rattle.model.specs.Outline.{outlineKernels, response, edgeStrength};
+ghost use Rattle.edge_rows.specs.Square.{squareAt};
+
+// Four kernels of nine signed weights, each by its rows, the top row first.
+const KERNELS: [[i16; 9]; 4] = [
+    [-1, 0, 1, -1, 0, 1, -1, 0, 1],
+    [-1, -1, -1, 0, 0, 0, 1, 1, 1],
+    [0, 1, 1, -1, 0, 1, -1, -1, 0],
+    [-1, -1, 0, -1, 0, 1, 0, 1, 1],
+];
+
+fn kernel(k: usize) -> [i16; 9]
+    requires { ⌜ k < 4 ⌝ }
+    ensures { λ c. ⌜ c ≡ getD outlineKernels k [] ⌝ }
+{
+    KERNELS[k]
+}
+
+// A sum and one product more.
+fn plus(sum: i16, weight: i16, sample: u8) -> i16
+    requires { ⌜ (natAbs sum ≤ 2040) × (natAbs weight ≤ 1) ⌝ }
+    ensures { λ r. ⌜ (r ≡ sum +ℤ weight *ℤ pos sample) × (natAbs r ≤ natAbs sum + 255) ⌝ }
+{
+    sum + weight * sample as i16
+}
+
+// A kernel's response to the nine samples under it. It is at most 9 times 255 in size, so 16 bits hold it.
+fn response_of(kernel: [i16; 9], square: [u8; 9]) -> i16
+    requires { ⌜ ((i : ℕ) → natAbs (getD kernel i (pos 0)) ≤ 1) ⌝ }
+    ensures { λ r. ⌜ (r ≡ response kernel square) × (natAbs r ≤ 2295) ⌝ }
+{
+    let mut sum: i16 = 0;
+    let mut i = 0;
+    while i < 9 {
+        sum = plus(sum, kernel[i], square[i]);
+        i += 1;
+    }
+    sum
+}
+
+fn magnitude(x: i16) -> u16
+    requires { ⌜ natAbs x ≤ 2295 ⌝ }
+    ensures { λ r. ⌜ r ≡ natAbs x ⌝ }
+{
+    if x < 0 { (0 - x) as u16 } else { x as u16 }
+}
+
+fn larger(a: u16, b: u16) -> u16
+    ensures { λ r. ⌜ r ≡ max a b ⌝ }
+{
+    if a < b { b } else { a }
+}
+
+fn strength(square: [u8; 9]) -> u16
+    ensures { λ r. ⌜ r ≡ edgeStrength square ⌝ }
+{
+    let mut most: u16 = 0;
+    let mut k = 0;
+    while k < 4 {
+        most = larger(most, magnitude(response_of(kernel(k), square)));
+        k += 1;
+    }
+    most
+}
+
+// A strength as a level.
+fn level(strength: u16) -> u8
+    ensures { λ r. ⌜ r ≡ min strength 255 ⌝ }
+{
+    if strength < 255 { strength as u8 } else { 255 }
+}
+
+// Nine samples, three from the front of each row.
+fn square_of(above: &[u8], here: &[u8], below: &[u8]) -> [u8; 9]
+    requires { ⌜ (3 ≤ length (now above)) × (3 ≤ length (now here)) × (3 ≤ length (now below)) ⌝ }
+    ensures { λ r. ⌜ r ≡ take 3 (now (above .entry)) ++ take 3 (now (here .entry)) ++ take 3 (now (below .entry)) ⌝ }
+{
+    [
+        above[0],
+        above[1],
+        above[2],
+        here[0],
+        here[1],
+        here[2],
+        below[0],
+        below[1],
+        below[2],
+    ]
+}
+
+// One row of levels. The three rows begin one column to the left of the first.
+pub fn edge_row(above: &[u8], here: &[u8], below: &[u8], w: usize, dst: &mut [u8])
+    requires { ⌜ (w + 2 ≤ length (now above)) × (w + 2 ≤ length (now here)) × (w + 2 ≤ length (now below)) × (w ≤ length (now dst)) ⌝ }
+    ensures { λ _. ⌜ now (dst .exit) ≡ tabulate (λ u. min (edgeStrength (squareAt (now (above .entry)) (now (here .entry)) (now (below .entry)) u)) 255) w ++ drop w (now (dst .entry)) ⌝ }
+{
+    let mut u = 0;
+    while u < w {
+        let square = square_of(&above[u..], &here[u..], &below[u..]);
+        dst[u] = level(strength(square));
+        u += 1;
+    }
+}

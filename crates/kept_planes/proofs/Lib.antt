@@ -1,0 +1,2 @@
+pub mod StoredAt
+pub mod Planes

@@ -1,0 +1,2 @@
+-- Rows that an outline stage holds, definitions only.
+pub mod HeldRow
