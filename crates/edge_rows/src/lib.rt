@@ -8,7 +8,7 @@ ghost use Rattle.lists.specs.Tabulate.{tabulate};
 ghost use Rattle.model.specs.Outline.{outlineKernels, response, edgeStrength};
 ghost use Rattle.edge_rows.specs.Square.{squareAt};
 
-// Four kernels of nine signed weights, each by its rows, the top row first.
+// The four kernels, each by its rows, the top row first.
 const KERNELS: [[i16; 9]; 4] = [
     [-1, 0, 1, -1, 0, 1, -1, 0, 1],
     [-1, -1, -1, 0, 0, 0, 1, 1, 1],

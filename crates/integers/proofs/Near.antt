@@ -1,6 +1,6 @@
 -- Distances of two scaled integers, |k x - l y| ≤ e, stated in ℕ by their parts. Assumes nothing.
-use Prim.Native.Nat.{ℕ, suc, _+_, _*_, _≤_, _<_, min}
-use native.Mathlib.Nat.{mul-le-mul-left, min-eq-left, min-eq-right}
+use Prim.Native.Nat.{ℕ, suc, _+_, _*_, _≤_, _<_, min, max}
+use native.Mathlib.Nat.{mul-le-mul-left, min-eq-left, min-eq-right, max-eq-left, max-eq-right}
 use native.Mathlib.Omega.{arith}
 use native.Mathlib.Decide.{decLe}
 use mathlib.Core.Path.{_≡_, ap}
@@ -75,12 +75,27 @@ near-magnitude (pos n) (negsuc m) p = omega arith
 near-magnitude (negsuc n) (pos m) p = omega arith
 near-magnitude (negsuc n) (negsuc m) p = omega arith
 
+-- magnitudes are no further apart
+pub near-abs : {k l e : ℕ} (x y : ℤ) → Near k x l y e → Near k (pos (natAbs x)) l (pos (natAbs y)) e
+near-abs x y p = omega (arith, near-magnitude x y p, near-magnitude y x (record { le = p .ge; ge = p .le }))
+
 pub mul-min : (N n m : ℕ) → N * min n m ≡ min (N * n) (N * m)
 mul-min N n m = go (decLe n m)
   where
     go : Dec (n ≤ m) → N * min n m ≡ min (N * n) (N * m)
     go (yes h) = omega (arith, ap (λ (k : ℕ). N * k) (min-eq-left h), mul-le-mul-left N h)
     go (no h) = let l : m ≤ n = omega arith in omega (arith, ap (λ (k : ℕ). N * k) (min-eq-right l), mul-le-mul-left N l)
+
+pub mul-max : (N n m : ℕ) → N * max n m ≡ max (N * n) (N * m)
+mul-max N n m = go (decLe n m)
+  where
+    go : Dec (n ≤ m) → N * max n m ≡ max (N * n) (N * m)
+    go (yes h) = omega (arith, ap (λ (k : ℕ). N * k) (max-eq-right h), mul-le-mul-left N h)
+    go (no h) = let l : m ≤ n = omega arith in omega (arith, ap (λ (k : ℕ). N * k) (max-eq-left l), mul-le-mul-left N l)
+
+-- nor is the larger of two
+pub near-max : {k l e : ℕ} (a b c d : ℕ) → Near k (pos a) l (pos b) e → Near k (pos c) l (pos d) e → Near k (pos (max a c)) l (pos (max b d)) e
+near-max {k} {l} a b c d p q = omega (arith, mul-max k a c, mul-max l b d)
 
 -- clamped to 0 to M, and to 0 to M N: no further apart
 pub near-clamp : (k N M : ℕ) (y x : ℤ) {e : ℕ} → Near (k * N) y k x e → Near (k * N) (pos (clamp M y)) k (pos (clamp (M * N) x)) e

@@ -1,41 +1,20 @@
--- Outline work keeps to the tolerance's formula: a response adds up six samples, so its error is at most six times theirs; and the largest of some
--- magnitudes moves by no more than the most that one of them moves. Assumes nothing.
-use Prim.Native.Nat.{ℕ, _+_, _*_, _≤_, max, min}
-use native.Mathlib.Nat.{mul-le-mul-left, mul-le-mul-right, max-eq-left, max-eq-right}
-use native.Mathlib.Decide.{decLe}
+-- Outline work keeps to the tolerance's formula. Assumes nothing.
+-- Six samples enter a response, each with its own error; a magnitude moves no further than its response, and a maximum no further than what it is taken of.
+use Prim.Native.Nat.{ℕ, _*_, _≤_, max}
+use native.Mathlib.Nat.{mul-le-mul-right}
 use native.Mathlib.Omega.{arith}
-use mathlib.Core.Path.{_≡_, refl, ap}
+use mathlib.Core.Path.{_≡_, refl}
 use mathlib.Core.List.{List, [], _∷_, map}
-use lib.IntN.{ℤ, pos, negsuc, natAbs, _+ℤ_, _*ℤ_}
+use lib.IntN.{ℤ, pos, natAbs}
 use Rattle.integers.specs.Divide.{clamp}
 use Rattle.integers.specs.Sum.{sum}
-use Rattle.integers.proofs.Near.{Near, near-mono, near-zero, near-add, near-mul, near-magnitude, near-clamp}
+use Rattle.integers.proofs.Near.{Near, near-mono, near-zero, near-add, near-mul, near-abs, near-max, near-clamp}
 use Rattle.lists.proofs.Pairs.{Pairs, none, more}
 use Rattle.model.specs.Plane.{Neighbourhood}
 use Rattle.model.specs.Window.{window}
 use Rattle.model.specs.Outline.{outlineKernels, response, largest, edgeStrength, outlineResult}
 use Rattle.model_laws.proofs.Weighted.{Close}
 use Rattle.model_laws.proofs.Window.{pairs-window}
-
--- ---- magnitudes, and the larger of two
-
-near-flip : {k l e : ℕ} {x y : ℤ} → Near k x l y e → Near l y k x e
-near-flip p = record { le = p .ge; ge = p .le }
-
-near-abs : {k l e : ℕ} (x y : ℤ) → Near k x l y e → Near k (pos (natAbs x)) l (pos (natAbs y)) e
-near-abs x y p = omega (arith, near-magnitude x y p, near-magnitude y x (near-flip p))
-
-mul-max : (k a b : ℕ) → k * max a b ≡ max (k * a) (k * b)
-mul-max k a b = go (decLe a b)
-  where
-    go : Dec (a ≤ b) → k * max a b ≡ max (k * a) (k * b)
-    go (yes h) = omega (arith, ap (λ (n : ℕ). k * n) (max-eq-right h), mul-le-mul-left k h)
-    go (no h) = let l : b ≤ a = omega arith in omega (arith, ap (λ (n : ℕ). k * n) (max-eq-left l), mul-le-mul-left k l)
-
-near-max : {k l e : ℕ} (a b c d : ℕ) → Near k (pos a) l (pos b) e → Near k (pos c) l (pos d) e → Near k (pos (max a c)) l (pos (max b d)) e
-near-max {k} {l} a b c d p q = omega (arith, mul-max k a c, mul-max l b d)
-
--- ---- responses
 
 -- the sum of the weights' magnitudes
 size : List ℤ → ℕ
@@ -60,8 +39,6 @@ near-strength {e = e} {ys} {xs} (c ∷ cs) p =
     near-max _ _ _ _
     (near-mono (near-abs (response c ys) (response c xs) (near-response c p)) (mul-le-mul-right e this))
     (near-mono (near-strength cs p) (mul-le-mul-right e rest))
-
--- ---- the outline
 
 pub outline-le : (f : Neighbourhood) → outlineResult f ≤ 255
 unfolding outlineResult
