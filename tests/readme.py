@@ -236,12 +236,14 @@ def recipes(tally, room):
 
 
 def outline_kernels(tally, room):
-    """The kernels of an outline as they are printed: each by a still of 3 by 3 that is bright where it has 1 and dark where it has -1, so no other sum is as large."""
+    """The kernels of an outline as they are printed, by a still of 3 by 3 for each: 40 where it has 1, 0 where it has -1, else 20. Six weights of 1 or -1 give
+    120 only if they are those of a kernel of the program, all six."""
     rows = [list(map(int, line.split())) for line in printed(section("Recipes"), "-1 ")]
-    for k in range(0, 12, 3):
-        kernel = [weight for row in rows for weight in row[k:k + 3]]
+    kernels = [tuple(weight for row in rows for weight in row[k:k + 3]) for k in range(0, 12, 3)]
+    for number, kernel in enumerate(kernels, 1):
         said, out = filtered(room, b"P5\n3 3\n255\n" + bytes(20 + 20 * weight for weight in kernel), b"\x01\x06\x01\x00")
-        tally.equal("the outline's kernel %d" % (k // 3 + 1), (said, out and out[-5]), ("ok 3 3 1 0\n", sum(20 * abs(weight) for weight in kernel)))
+        tally.equal("the outline's kernel %d" % number, (said, out and out[-5], sum(map(abs, kernel))), ("ok 3 3 1 0\n", 120, 6))
+    tally.equal("no kernel comes twice", len({max(kernel, tuple(-weight for weight in kernel)) for kernel in kernels}), 4)
 
 
 def try_readme(tally):

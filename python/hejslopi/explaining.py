@@ -5,7 +5,7 @@ from typing import Any, Dict, List
 
 from .calls import BytesLike, read_recipe, taken
 from .describing import stage_described, stages_of
-from .kernels import OUTLINE_GAIN, OUTLINE_OFFSETS, fraction_text, gain, short_text, weights, window
+from .kernels import OUTLINE_GROWTH, OUTLINE_OFFSETS, fraction_text, gain, short_text, weights, window
 from .stage_bytes import AXES, Stage
 
 UNITS = 65536
@@ -43,7 +43,7 @@ def stage_explained(recipe: bytes, stage: Stage) -> Dict[str, Any]:
     if stage.kind == "rank":
         explained["position"], explained["window"] = stage.one("position"), window(stage)
     if stage.kind == "outline":
-        explained["growth"] = OUTLINE_GAIN
+        explained["growth"] = OUTLINE_GROWTH
     explained.update({"tolerance": tolerance, "grey_levels": tolerance / UNITS, "description": stage_described(stage)})
     return explained
 
@@ -96,7 +96,7 @@ def growth_of(stages: List[Dict[str, Any]]) -> List[str]:
     """What an outline does to T, which no sum or gain of its row tells, in a sentence."""
     if not any("growth" in stage for stage in stages):
         return []
-    return ["Behind an outline T is %d times what it was before it, at most all 255 grey levels: each of its four sums weighs six samples by 1 or -1." % OUTLINE_GAIN]
+    return ["Behind an outline T is %d times what it was before it, at most all 255 grey levels: each of its four sums weighs six samples by 1 or -1." % OUTLINE_GROWTH]
 
 
 HEADINGS = ["stage", "kind", "border", "across", "sum", "gain", "down", "sum", "gain", "T", "levels"]

@@ -7,7 +7,7 @@ from typing import List
 from .stage_bytes import Stage
 
 # An outline has no weights on an axis: its four kernels look at 3 by 3 samples, and six weights of each are 1 or -1, the others 0.
-OUTLINE_OFFSETS, OUTLINE_GAIN = (-1, 0, 1), 6
+OUTLINE_OFFSETS, OUTLINE_GROWTH = (-1, 0, 1), 6
 
 
 def area(across: int, down: int) -> int:

@@ -80,7 +80,7 @@ def axes_of(item: Item, values: Values) -> List[str]:
 
 
 def axes_held(kind: str) -> Tuple[str, ...]:
-    """The axes that a stage of this kind has fields for: both, or none as an outline."""
+    """The axes that a stage of this kind has fields for: both, or none, as for an outline."""
     return AXES if any(item.per != "stage" for item in LAYOUTS[kind]) else ()
 
 

@@ -69,6 +69,7 @@ pub fn needs(recipe: &[u8], width: usize, height: usize) -> Result<Needs, Refusa
     let mut at = 1;
     for _ in 0..stages {
         let field = |k: usize| recipe[at + k] as usize;
+        // asked for by kind only: an outline may end the recipe before these bytes
         let taps = || field(3) + field(4);
         at += match field(0) {
             1 => 9 + 3 * taps(),

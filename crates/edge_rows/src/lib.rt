@@ -1,4 +1,4 @@
-// A row of an outline stage: at each column the largest magnitude among the responses of four kernels of 3 by 3.
+// A row of an outline stage: at each column four kernels respond to the square around it, and the strongest response counts.
 ghost use mathlib.Core.Path.{_≡_};
 ghost use mathlib.Core.List.{[], _++_};
 ghost use Prim.Native.Nat.{ℕ, _+_, _≤_, _<_, min, max};
@@ -16,6 +16,7 @@ const KERNELS: [[i16; 9]; 4] = [
     [-1, -1, 0, -1, 0, 1, 0, 1, 1],
 ];
 
+// A kernel of the table, which is the definition's.
 fn kernel(k: usize) -> [i16; 9]
     requires { ⌜ k < 4 ⌝ }
     ensures { λ c. ⌜ c ≡ getD outlineKernels k [] ⌝ }

@@ -1,2 +1,3 @@
 pub mod StoredAt
 pub mod Planes
+pub mod Held

@@ -168,7 +168,7 @@ smoothed ws = weighted (binomial 1) (binomial 1) ∷ ws
 
 -- Request 2026-01, worked by hand. The responses of the four kernels, in their order:
 -- 177, 24, 96, 140; 24, 207, -116, 160; 120, -76, 147, 24; -98, -140, 22, -177; 20, -20, 30, 0; and 270, 0, 180, 180, where 270 is clamped;
--- one row of 10 20 40: the rows above and below are the same row, so the first kernel gives three times the difference of the two sides;
+-- one row of 10 20 40: with nearest and wrap it stands above and below too, and the first kernel gives three times the difference of the two sides; with constant 0 once;
 -- 34,811 times 6, and again, until the fourth passes the cut; exact: 40, 230 and 420 thirds, whose differences are 190, 380 and 190, and 3·380 is clamped to 765.
 unfoldable pub outlines : List Example
 outlines =

@@ -1,4 +1,4 @@
--- The window of a box or a rank ('The three kinds of work'), by its horizontal radius r and its vertical radius s.
+-- The window of a box or a rank ('The three kinds of work'), by its horizontal radius r and its vertical radius s; that of an outline has radii 1 and 1.
 use Prim.Native.Nat.{ℕ, _+_, _*_}
 use mathlib.Core.List.{List}
 use lib.IntN.{pos, _-ℤ_}

@@ -1,12 +1,12 @@
--- Rows that are held in buffers, and the squares in three of them. Assumes nothing.
-use Prim.Native.Nat.{ℕ, _+_, _*_, _≤_, _<_, min}
+-- Squares in three rows that are held, and the levels that they give. Assumes nothing.
+use Prim.Native.Nat.{ℕ, _+_, _≤_, _<_, min}
 use native.Mathlib.Omega.{arith}
 use mathlib.Core.Path.{_≡_, sym, ap, _∙_}
-use mathlib.Core.List.{List, _++_}
-use lib.ListN.{length, getD, take, drop, length-append, length-drop}
-use lib.Seq.{take-at, drop-drop, getD-drop, getD-take}
+use mathlib.Core.List.{List}
+use lib.ListN.{getD, take, drop, length-drop}
+use lib.Seq.{drop-drop, getD-drop, getD-take}
 use Rattle.lists.specs.Tabulate.{tabulate, raster}
-use Rattle.lists.proofs.Tabulate.{length-tabulate, getD-tabulate, tabulate-ext, tabulate-getD}
+use Rattle.lists.proofs.Tabulate.{getD-tabulate, tabulate-ext, tabulate-getD}
 use Rattle.lists.proofs.Stored.{StoredRows}
 use Rattle.model.specs.Window.{window}
 use Rattle.model.specs.Outline.{edgeStrength, outlineResult}
@@ -15,36 +15,19 @@ use Rattle.frame.specs.Framed.{neighbours}
 use Rattle.frame.specs.Padded.{padded}
 use Rattle.frame.proofs.Supplied.{window-padded}
 use Rattle.edge_rows.specs.Square.{squareAt}
-use Rattle.kept_planes.proofs.Planes.{behind-copied, behind-rows}
-use Rattle.outlines.specs.HeldRow.{kept, Held}
+use Rattle.kept_planes.proofs.Planes.{behind-rows}
+use Rattle.kept_planes.specs.HeldRow.{kept, Held}
 
 -- squares in rows that begin 14 places later
 pub square-later : (a b c : List ℕ) (u : ℕ) → squareAt (drop 14 a) (drop 14 b) (drop 14 c) u ≡ squareAt a b c (14 + u)
 unfolding squareAt
 square-later a b c u = rw (drop-drop u 14 a, drop-drop u 14 b, drop-drop u 14 c)
 
--- a copy of the plane in front is kept
-pub kept-copy : (f : Frame) (d l : List ℕ) → 2 * (f .height * f .width) ≤ length d
-    → l ≡ take (f .height * f .width) d ++ take (f .height * f .width) d ++ drop (f .height * f .width + f .height * f .width) d → kept f l ≡ take (f .height * f .width) d
-kept-copy f d l h e = behind-copied (f .height * f .width) d l (omega (arith, h)) e
-
 -- rows of the plane in front leave the kept plane as it was
 pub kept-same : (f : Frame) (g : ℕ → ℕ → ℕ) (d l : List ℕ) {at v : ℕ} → StoredRows g (f .width) (f .height) d l at v → kept f l ≡ kept f d
 kept-same f g d l {at} {v} s = behind-rows g (f .width) v at d l (s .place) (s .front) (f .height) (s .so-far)
 
 module _ (f : Frame) (samples : List ℕ) where
-  pub held-made : (y : ℕ) (d l : List ℕ) → l ≡ tabulate (λ x. padded f samples x y) (f .width + 30) ++ drop (f .width + 30) d → Held f samples y l
-  held-made y d l e =
-      let n = length-tabulate (λ x. padded f samples x y) (f .width + 30) in
-      record {
-        long = rw (e, length-append, n) (omega arith);
-        front = rw e (take-at (tabulate (λ x. padded f samples x y) (f .width + 30)) _ (f .width + 30) n);
-      }
-
-  -- the front of another buffer that holds it
-  pub held-moved : {y : ℕ} {row : List ℕ} → Held f samples y row → (d l : List ℕ) → l ≡ take (f .width + 30) row ++ drop (f .width + 30) d → Held f samples y l
-  held-moved {y} h d l e = held-made y d l (e ∙ ap (λ (t : List ℕ). t ++ drop (f .width + 30) d) (h .front))
-
   row-at : {y : ℕ} {row : List ℕ} → Held f samples y row → (x : ℕ) → x < f .width + 30 → getD row x 0 ≡ padded f samples x y
   row-at {y} {row} h x k = sym (getD-take (f .width + 30) row x 0 k) ∙ ap (λ (l : List ℕ). getD l x 0) (h .front) ∙ getD-tabulate (λ i. padded f samples i y) (f .width + 30) x 0 k
 

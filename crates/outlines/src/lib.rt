@@ -8,36 +8,7 @@ ghost use Rattle.lists.specs.Tabulate.{tabulate};
 ghost use Rattle.model.specs.Outline.{edgeStrength, outlineResult};
 ghost use Rattle.frame.specs.Framed.{Framed, worked};
 ghost use Rattle.edge_rows.specs.Square.{squareAt};
-ghost use Rattle.outlines.specs.HeldRow.{kept, Held};
-
-// Row y - 15 of the plane that is kept in `work`, with 15 samples more on each side.
-fn kept_row(frame: Frame, work: &[u8], y: usize, dst: &mut [u8])
-    requires { ⌜ Framed frame (kept frame (now work)) × (y ≤ 16384) × (frame .width + 30 ≤ length (now dst)) ⌝ }
-    ensures { λ _. ⌜ Held frame (kept frame (now (work .entry))) y (now (dst .exit)) ⌝ }
-{
-    let w = frame.width;
-    let h = frame.height;
-    let n = h * w;
-    frame::padded_row(frame, &work[n..n + n], y, dst);
-}
-
-// Rows v - 1, v and v + 1: the two that are held move up, and the third is made.
-fn next_rows(
-    frame: Frame,
-    work: &[u8],
-    v: usize,
-    above: &mut [u8],
-    here: &mut [u8],
-    below: &mut [u8],
-)
-    requires { ⌜ Framed frame (kept frame (now work)) × (v < frame .height) × (frame .width + 30 ≤ length (now above)) × Held frame (kept frame (now work)) (14 + v) (now here) × Held frame (kept frame (now work)) (15 + v) (now below) ⌝ }
-    ensures { λ _. ⌜ Held frame (kept frame (now (work .entry))) (14 + v) (now (above .exit)) × Held frame (kept frame (now (work .entry))) (15 + v) (now (here .exit)) × Held frame (kept frame (now (work .entry))) (16 + v) (now (below .exit)) ⌝ }
-{
-    let n = frame.width + 30;
-    buffers::copy_front(here, above, n);
-    buffers::copy_front(below, here, n);
-    kept_row(frame, work, 16 + v, below);
-}
+ghost use Rattle.kept_planes.specs.HeldRow.{kept, Held};
 
 // The levels of a row, from rows with 15 samples more on each side.
 fn write_row(above: &[u8], here: &[u8], below: &[u8], w: usize, dst: &mut [u8])
@@ -57,7 +28,7 @@ fn write_rows(frame: Frame, work: &mut [u8], above: &mut [u8], here: &mut [u8], 
     let mut at = 0;
     let mut v = 0;
     while v < h {
-        next_rows(frame, work, v, above, here, below);
+        kept_planes::next_rows(frame, work, v, above, here, below);
         write_row(above, here, below, w, &mut work[at..]);
         at += w;
         v += 1;
@@ -75,7 +46,7 @@ pub fn outline_stage(frame: Frame, work: &mut [u8])
     let mut here = [0u8; 8224];
     let mut below = [0u8; 8224];
     kept_planes::keep(work, h * w);
-    kept_row(frame, work, 14, &mut here);
-    kept_row(frame, work, 15, &mut below);
+    kept_planes::kept_row(frame, work, 14, &mut here);
+    kept_planes::kept_row(frame, work, 15, &mut below);
     write_rows(frame, work, &mut above, &mut here, &mut below);
 }

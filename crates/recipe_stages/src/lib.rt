@@ -106,7 +106,7 @@ fn axis_for(part: &[u8], kind: u8, axis: usize) -> Axis
     kernels::axis_of(recipe_kernels::kernel_on(part, kind == 2, axis))
 }
 
-// The work of a box, a rank or an outline, after its header bytes.
+// The work of a stage without kernels on its axes: a box, a rank or an outline, after its header bytes.
 fn window_work(part: &[u8], kind: u8) -> Work
     requires { ⌜ (4 ≤ kind) × (kind ≤ 6) × (verdict (workTests kind (now part)) ≡ Passed) ⌝ }
     ensures { λ r. ⌜ r ≡ windowOf kind (now (part .entry)) ⌝ }

@@ -1,7 +1,7 @@
 -- `outlines::outline_stage` meets its contract: the kept plane is what the plane in front was. Assumes nothing.
 use native.Mathlib.Omega.{arith}
 use denote.Ref.{now}
-use Rattle.outlines.proofs.Rows.{kept-copy}
+use Rattle.kept_planes.proofs.Held.{kept-copy}
 use borrow.Author.Needs.{needs}
 use Rattle.outlines.proofs.outline_stage.Statement.{statement}
 use Rattle.outlines.proofs.outline_stage.Tie as tie

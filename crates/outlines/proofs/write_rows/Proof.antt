@@ -13,7 +13,7 @@ use Rattle.lists.proofs.Stored.{StoredRows, rows-stored-none, rows-stored-more,
 use Rattle.model.specs.Outline.{outlineResult}
 use Rattle.frame.specs.Framed.{neighbours, worked}
 use Rattle.kept_planes.proofs.Planes.{plane-behind, plane-small}
-use Rattle.outlines.specs.HeldRow.{kept, Held}
+use Rattle.kept_planes.specs.HeldRow.{kept, Held}
 use Rattle.outlines.proofs.Rows.{kept-same, levels}
 use borrow.Author.Needs.{needs}
 use Rattle.outlines.proofs.write_rows.Statement.{statement}

@@ -1,14 +1,14 @@
--- `outlines::kept_row` meets its contract. Assumes nothing.
+-- `kept_planes::kept_row` meets its contract. Assumes nothing.
 use Prim.Native.Nat.{_+_, _*_, _≤_}
 use native.Mathlib.Omega.{arith}
 use mathlib.Core.Path.{refl}
 use lib.ListN.{length}
 use denote.Ref.{now}
 use Rattle.kept_planes.proofs.Planes.{part-behind, plane-behind, plane-small}
-use Rattle.outlines.proofs.Rows.{held-made}
+use Rattle.kept_planes.proofs.Held.{held-made}
 use borrow.Author.Needs.{needs}
-use Rattle.outlines.proofs.kept_row.Statement.{statement}
-use Rattle.outlines.proofs.kept_row.Tie as tie
+use Rattle.kept_planes.proofs.kept_row.Statement.{statement}
+use Rattle.kept_planes.proofs.kept_row.Tie as tie
 
 -- the kept plane ends inside the buffer
 room : (c : tie.Start) → let n = c .args .frame .height * c .args .frame .width in (n + n ≤ length (now (c .args .work))) × (n ≤ 67108864)

@@ -1,8 +1,8 @@
--- `outlines::next_rows` meets its contract: what is moved is held as before, and the third row is made. Assumes nothing.
-use Rattle.outlines.proofs.Rows.{held-moved}
+-- `kept_planes::next_rows` meets its contract: what is moved is held as before, and the third row is made. Assumes nothing.
+use Rattle.kept_planes.proofs.Held.{held-moved}
 use borrow.Author.Needs.{needs}
-use Rattle.outlines.proofs.next_rows.Statement.{statement}
-use Rattle.outlines.proofs.next_rows.Tie as tie
+use Rattle.kept_planes.proofs.next_rows.Statement.{statement}
+use Rattle.kept_planes.proofs.next_rows.Tie as tie
 
 add-n : tie.Need-add-n
 add-n c = search needs

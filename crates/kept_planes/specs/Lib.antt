@@ -1,0 +1,2 @@
+-- Rows of a kept plane, definitions only.
+pub mod HeldRow

@@ -1,2 +1,0 @@
--- Rows that an outline stage holds, definitions only.
-pub mod HeldRow
