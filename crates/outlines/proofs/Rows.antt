@@ -4,7 +4,7 @@ use native.Mathlib.Omega.{arith}
 use mathlib.Core.Path.{_≡_, sym, ap, _∙_}
 use mathlib.Core.List.{List}
 use lib.ListN.{getD, take, drop, length-drop}
-use lib.Seq.{drop-drop, getD-drop, getD-take}
+use lib.Seq.{getD-drop, getD-take}
 use Rattle.lists.specs.Tabulate.{tabulate, raster}
 use Rattle.lists.proofs.Tabulate.{getD-tabulate, tabulate-ext, tabulate-getD}
 use Rattle.lists.proofs.Stored.{StoredRows}
@@ -14,14 +14,9 @@ use Rattle.frame.specs.declared.Frame.{Frame}
 use Rattle.frame.specs.Framed.{neighbours}
 use Rattle.frame.specs.Padded.{padded}
 use Rattle.frame.proofs.Supplied.{window-padded}
-use Rattle.edge_rows.specs.Square.{squareAt}
+use Rattle.outlines.specs.Square.{squareAt}
 use Rattle.kept_planes.proofs.Planes.{behind-rows}
 use Rattle.kept_planes.specs.HeldRow.{kept, Held}
-
--- squares in rows that begin 14 places later
-pub square-later : (a b c : List ℕ) (u : ℕ) → squareAt (drop 14 a) (drop 14 b) (drop 14 c) u ≡ squareAt a b c (14 + u)
-unfolding squareAt
-square-later a b c u = rw (drop-drop u 14 a, drop-drop u 14 b, drop-drop u 14 c)
 
 -- rows of the plane in front leave the kept plane as it was
 pub kept-same : (f : Frame) (g : ℕ → ℕ → ℕ) (d l : List ℕ) {at v : ℕ} → StoredRows g (f .width) (f .height) d l at v → kept f l ≡ kept f d

@@ -7,15 +7,38 @@ ghost use lib.ListN.{length, take, drop};
 ghost use Rattle.lists.specs.Tabulate.{tabulate};
 ghost use Rattle.model.specs.Outline.{edgeStrength, outlineResult};
 ghost use Rattle.frame.specs.Framed.{Framed, worked};
-ghost use Rattle.edge_rows.specs.Square.{squareAt};
+ghost use Rattle.outlines.specs.Square.{squareAt};
 ghost use Rattle.kept_planes.specs.HeldRow.{kept, Held};
+
+// Nine samples, three from the front of each row.
+fn square_of(above: &[u8], here: &[u8], below: &[u8]) -> [u8; 9]
+    requires { ⌜ (3 ≤ length (now above)) × (3 ≤ length (now here)) × (3 ≤ length (now below)) ⌝ }
+    ensures { λ r. ⌜ r ≡ take 3 (now (above .entry)) ++ take 3 (now (here .entry)) ++ take 3 (now (below .entry)) ⌝ }
+{
+    [
+        above[0],
+        above[1],
+        above[2],
+        here[0],
+        here[1],
+        here[2],
+        below[0],
+        below[1],
+        below[2],
+    ]
+}
 
 // The levels of a row, from rows with 15 samples more on each side.
 fn write_row(above: &[u8], here: &[u8], below: &[u8], w: usize, dst: &mut [u8])
     requires { ⌜ (w + 30 ≤ length (now above)) × (w + 30 ≤ length (now here)) × (w + 30 ≤ length (now below)) × (w ≤ length (now dst)) ⌝ }
     ensures { λ _. ⌜ now (dst .exit) ≡ tabulate (λ u. min (edgeStrength (squareAt (now (above .entry)) (now (here .entry)) (now (below .entry)) (14 + u))) 255) w ++ drop w (now (dst .entry)) ⌝ }
 {
-    edge_rows::edge_row(&above[14..], &here[14..], &below[14..], w, dst);
+    let mut u = 0;
+    while u < w {
+        let left = 14 + u;
+        dst[u] = edges::level(square_of(&above[left..], &here[left..], &below[left..]));
+        u += 1;
+    }
 }
 
 // All rows, into the plane at the front of `work`. The rows above and at the first are held.

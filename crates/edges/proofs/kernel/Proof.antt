@@ -1,9 +1,9 @@
--- `edge_rows::kernel` meets its contract: all 36 entries of the table are computed to be the definition's. Assumes nothing.
+-- `edges::kernel` meets its contract: all 36 entries of the table are computed to be the definition's. Assumes nothing.
 use mathlib.Core.Path.{refl}
 use Rattle.model.specs.Outline.{outlineKernels}
 use borrow.Author.Needs.{needs}
-use Rattle.edge_rows.proofs.kernel.Statement.{statement}
-use Rattle.edge_rows.proofs.kernel.Tie as tie
+use Rattle.edges.proofs.kernel.Statement.{statement}
+use Rattle.edges.proofs.kernel.Tie as tie
 
 mul-result : tie.Need-mul-result
 mul-result c = search needs

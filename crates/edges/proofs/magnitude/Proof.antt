@@ -1,4 +1,4 @@
--- `edge_rows::magnitude` meets its contract: below 0 it is the number subtracted from 0. Assumes nothing.
+-- `edges::magnitude` meets its contract: below 0 it is the number subtracted from 0. Assumes nothing.
 use Prim.Native.Nat.{_+_, _≤_, _<_}
 use native.Mathlib.Omega.{arith}
 use mathlib.Core.Path.{_≡_, refl, _∙_}
@@ -9,8 +9,8 @@ use Rattle.integers.proofs.Parts.{posPart, negPart, abs-parts}
 use Rattle.integers.proofs.Machine.{abs-fits}
 use Rattle.integers.proofs.Registers.{Bits, of-bits, nat-bits, sub-fits, sub-bits, lt-true, lt-false, nat-cast-fits, nat-cast-is}
 use borrow.Author.Needs.{needs}
-use Rattle.edge_rows.proofs.magnitude.Statement.{statement}
-use Rattle.edge_rows.proofs.magnitude.Tie as tie
+use Rattle.edges.proofs.magnitude.Statement.{statement}
+use Rattle.edges.proofs.magnitude.Tie as tie
 
 -- 0 - x where x is below 0, and x where it is not
 record Magnitude (z x : ℤ) : Type 0 where

@@ -1,12 +1,10 @@
-// A row of an outline stage: at each column four kernels respond to the square around it, and the strongest response counts.
+// Edges: four kernels respond to a square of nine samples, and the strongest response counts.
 ghost use mathlib.Core.Path.{_≡_};
-ghost use mathlib.Core.List.{[], _++_};
+ghost use mathlib.Core.List.{[]};
 ghost use Prim.Native.Nat.{ℕ, _+_, _≤_, _<_, min, max};
-ghost use lib.ListN.{length, getD, take, drop};
+ghost use lib.ListN.{getD};
 ghost use lib.IntN.{pos, natAbs, _+ℤ_, _*ℤ_};
-ghost use Rattle.lists.specs.Tabulate.{tabulate};
 ghost use Rattle.model.specs.Outline.{outlineKernels, response, edgeStrength};
-ghost use Rattle.edge_rows.specs.Square.{squareAt};
 
 // The four kernels, each by its rows, the top row first.
 const KERNELS: [[i16; 9]; 4] = [
@@ -72,39 +70,15 @@ fn strength(square: [u8; 9]) -> u16
 }
 
 // A strength as a level.
-fn level(strength: u16) -> u8
+fn clamped(strength: u16) -> u8
     ensures { λ r. ⌜ r ≡ min strength 255 ⌝ }
 {
     if strength < 255 { strength as u8 } else { 255 }
 }
 
-// Nine samples, three from the front of each row.
-fn square_of(above: &[u8], here: &[u8], below: &[u8]) -> [u8; 9]
-    requires { ⌜ (3 ≤ length (now above)) × (3 ≤ length (now here)) × (3 ≤ length (now below)) ⌝ }
-    ensures { λ r. ⌜ r ≡ take 3 (now (above .entry)) ++ take 3 (now (here .entry)) ++ take 3 (now (below .entry)) ⌝ }
+// The level of an outline in the middle of nine samples, row by row.
+pub fn level(square: [u8; 9]) -> u8
+    ensures { λ r. ⌜ r ≡ min (edgeStrength square) 255 ⌝ }
 {
-    [
-        above[0],
-        above[1],
-        above[2],
-        here[0],
-        here[1],
-        here[2],
-        below[0],
-        below[1],
-        below[2],
-    ]
-}
-
-// One row of levels. The three rows begin one column to the left of the first.
-pub fn edge_row(above: &[u8], here: &[u8], below: &[u8], w: usize, dst: &mut [u8])
-    requires { ⌜ (w + 2 ≤ length (now above)) × (w + 2 ≤ length (now here)) × (w + 2 ≤ length (now below)) × (w ≤ length (now dst)) ⌝ }
-    ensures { λ _. ⌜ now (dst .exit) ≡ tabulate (λ u. min (edgeStrength (squareAt (now (above .entry)) (now (here .entry)) (now (below .entry)) u)) 255) w ++ drop w (now (dst .entry)) ⌝ }
-{
-    let mut u = 0;
-    while u < w {
-        let square = square_of(&above[u..], &here[u..], &below[u..]);
-        dst[u] = level(strength(square));
-        u += 1;
-    }
+    clamped(strength(square))
 }

@@ -1,4 +1,4 @@
--- `edge_rows::plus` meets its contract: the sizes leave room. Assumes nothing.
+-- `edges::plus` meets its contract: the sizes leave room. Assumes nothing.
 use Prim.Native.Nat.{_+_, _*_, _≤_, _<_}
 use native.Mathlib.Nat.{mul-le-mul}
 use native.Mathlib.Omega.{arith}
@@ -8,8 +8,8 @@ use Rattle.integers.proofs.MulAdd.{product-fits, sum-fits, sum-is}
 use Rattle.integers.proofs.Registers.{Bits, of-bits, nat-bits}
 use Rattle.integers.proofs.Parts.{abs-add, abs-mul}
 use borrow.Author.Needs.{needs}
-use Rattle.edge_rows.proofs.plus.Statement.{statement}
-use Rattle.edge_rows.proofs.plus.Tie as tie
+use Rattle.edges.proofs.plus.Statement.{statement}
+use Rattle.edges.proofs.plus.Tie as tie
 
 module _ (c : tie.Start) where
   sample : Bits w16 (c .args .sample) (pos (c .args .sample))

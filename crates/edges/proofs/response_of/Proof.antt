@@ -1,4 +1,4 @@
--- `edge_rows::response_of` meets its contract: weight by weight. Assumes nothing.
+-- `edges::response_of` meets its contract: weight by weight. Assumes nothing.
 use Prim.Native.Nat.{_*_, _-_, _≤_}
 use native.Mathlib.Omega.{arith}
 use mathlib.Core.Path.{_≡_, ap, _∙_}
@@ -6,10 +6,10 @@ use lib.ListN.{length, getD}
 use lib.IntN.{ℤ, pos, _+ℤ_, _*ℤ_}
 use mir.Syntax.{w16}
 use mir.Val.{toZ, ofZ}
-use Rattle.edge_rows.proofs.Responses.{Summed, summed-none, summed-more, summed-all}
+use Rattle.edges.proofs.Responses.{Summed, summed-none, summed-more, summed-all}
 use borrow.Author.Needs.{needs}
-use Rattle.edge_rows.proofs.response_of.Statement.{statement}
-use Rattle.edge_rows.proofs.response_of.Tie as tie
+use Rattle.edges.proofs.response_of.Statement.{statement}
+use Rattle.edges.proofs.response_of.Tie as tie
 
 abbrev Inv-loop : tie.InvT-loop
 Inv-loop kernel square sum₀ i₀ sum i = Summed kernel square i (toZ w16 sum)

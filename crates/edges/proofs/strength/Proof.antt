@@ -1,4 +1,4 @@
--- `edge_rows::strength` meets its contract: kernel by kernel. Assumes nothing.
+-- `edges::strength` meets its contract: kernel by kernel. Assumes nothing.
 use Prim.Native.Nat.{ℕ, _-_, _≤_, max}
 use native.Mathlib.Omega.{arith}
 use mathlib.Core.Path.{_≡_, refl, ap, _∙_}
@@ -7,10 +7,10 @@ use lib.IntN.{ℤ, natAbs}
 use mir.Syntax.{w16}
 use mir.Val.{toZ, ofZ}
 use Rattle.model.specs.Outline.{response}
-use Rattle.edge_rows.proofs.Responses.{weight-le, Strongest, strongest-none, strongest-more, strongest-all}
+use Rattle.edges.proofs.Responses.{weight-le, Strongest, strongest-none, strongest-more, strongest-all}
 use borrow.Author.Needs.{needs}
-use Rattle.edge_rows.proofs.strength.Statement.{statement}
-use Rattle.edge_rows.proofs.strength.Tie as tie
+use Rattle.edges.proofs.strength.Statement.{statement}
+use Rattle.edges.proofs.strength.Tie as tie
 
 abbrev Inv-loop : tie.InvT-loop
 Inv-loop square most₀ k₀ most k = Strongest square k most

@@ -1,4 +1,4 @@
--- `edge_rows::square_of` meets its contract: three entries from the front of each row. Assumes nothing.
+-- `outlines::square_of` meets its contract: three entries from the front of each row. Assumes nothing.
 use Prim.Native.Nat.{ℕ, _≤_}
 use mathlib.Core.Path.{_≡_, refl, sym}
 use mathlib.Core.List.{List, [], _∷_}
@@ -7,8 +7,8 @@ use Rattle.lists.specs.Tabulate.{tabulate}
 use Rattle.lists.proofs.Tabulate.{tabulate-getD}
 use denote.Ref.{now}
 use borrow.Author.Needs.{needs}
-use Rattle.edge_rows.proofs.square_of.Statement.{statement}
-use Rattle.edge_rows.proofs.square_of.Tie as tie
+use Rattle.outlines.proofs.square_of.Statement.{statement}
+use Rattle.outlines.proofs.square_of.Tie as tie
 
 three : (row : List ℕ) → 3 ≤ length row → take 3 row ≡ getD row 0 0 ∷ getD row 1 0 ∷ getD row 2 0 ∷ []
 unfolding tabulate
