@@ -1,6 +1,6 @@
 -- Distances of two scaled integers, |k x - l y| ≤ e, stated in ℕ by their parts. Assumes nothing.
 use Prim.Native.Nat.{ℕ, suc, _+_, _*_, _≤_, _<_, min, max}
-use native.Mathlib.Nat.{mul-le-mul-left, min-eq-left, min-eq-right, max-eq-left, max-eq-right}
+use native.Mathlib.Nat.{mul-le-mul-left, min-eq-left, min-eq-right}
 use native.Mathlib.Omega.{arith}
 use native.Mathlib.Decide.{decLe}
 use mathlib.Core.Path.{_≡_, ap}
@@ -87,11 +87,7 @@ mul-min N n m = go (decLe n m)
     go (no h) = let l : m ≤ n = omega arith in omega (arith, ap (λ (k : ℕ). N * k) (min-eq-right l), mul-le-mul-left N l)
 
 pub mul-max : (N n m : ℕ) → N * max n m ≡ max (N * n) (N * m)
-mul-max N n m = go (decLe n m)
-  where
-    go : Dec (n ≤ m) → N * max n m ≡ max (N * n) (N * m)
-    go (yes h) = omega (arith, ap (λ (k : ℕ). N * k) (max-eq-right h), mul-le-mul-left N h)
-    go (no h) = let l : m ≤ n = omega arith in omega (arith, ap (λ (k : ℕ). N * k) (max-eq-left l), mul-le-mul-left N l)
+mul-max N n m = let both : max n m + min n m ≡ n + m = omega arith in omega (arith, mul-min N n m, ap (λ (k : ℕ). N * k) both)
 
 -- nor is the larger of two
 pub near-max : {k l e : ℕ} (a b c d : ℕ) → Near k (pos a) l (pos b) e → Near k (pos c) l (pos d) e → Near k (pos (max a c)) l (pos (max b d)) e
