@@ -1,4 +1,4 @@
-/* Hejslopi: Netpbm stills (P5, P6) filtered by a recipe. The interface for C (from C99) and C++ (from C++11).
+/* Hejslopi: Netpbm stills (P5, P6) filtered by a recipe, and their mean. The interface for C (from C99) and C++ (from C++11).
  *
  * Link with target/staticlib/libcapi.a, which `rt staticlib capi` proves and builds (x86-64 Linux). It needs memcpy and
  * memset and nothing else of the C library.
@@ -6,18 +6,18 @@
  * Every call returns 0 when it is done, or the number of a refusal. The first test that fails decides.
  * - Done: the values are in `result`, in the order given below. The output is written from its start; what is behind it in
  *   the lent buffer stays. Of the work buffers (work, rows, sums) nothing is promised.
- * - Refused: no lent buffer is altered, neither `result`, nor the output, nor the work buffers.
+ * - Refused: no lent buffer is altered, neither `result`, nor the output, nor the work buffers, nor a background.
  * No content of the given bytes and no length of a lent buffer is an error of the program: each is answered.
  *
  * The caller owns all memory. Nothing is allocated, and no pointer is kept after a call returns. A call has no state and
  * touches nothing but what it is handed, so calls may run in several threads at once, as long as no thread writes to what
- * another one's call was handed. Bytes that are only read (recipe, still, plane, raster) may be shared.
+ * another one's call was handed. What is only read (const) may be shared.
  * Calls were tried with 128 KiB of stack; nothing proves a bound.
  *
  * What the caller owes for each pointer:
  * - it is not NULL, even if its length is 0 (then nothing is read or written through it: hand any address);
- * - so many elements are there as its length says: lengths count elements, so 32-bit words for rows and sums;
- * - it is aligned for its type, and `result` has as many elements as declared;
+ * - so many elements are there as its length says: lengths count elements, so 32-bit words for rows, sums and labels;
+ * - it is aligned for its type, and `result` and `held` have as many elements as declared;
  * - a buffer that is not const overlaps no other one of the same call.
  */
 #ifndef HEJSLOPI_H
@@ -59,7 +59,12 @@ enum hejslopi_refusal {
 
     /* the program's files: only programs that read files give these, no call does */
     HEJSLOPI_FILE_LONG = 21,
-    HEJSLOPI_FILE_UNREAD = 22
+    HEJSLOPI_FILE_UNREAD = 22,
+
+    /* the background */
+    HEJSLOPI_STILL_NUMBER = 23,
+    HEJSLOPI_STILL_SIZE = 24,
+    HEJSLOPI_BACKGROUND_FULL = 25
 };
 
 /* What a returned number means: "done" for 0, "unknown" for one that is no refusal's. */
@@ -86,18 +91,24 @@ static inline const char *hejslopi_meaning(uint32_t number)
     case HEJSLOPI_ROOM: return "a lent buffer has less room than the call needs";
     case HEJSLOPI_FILE_LONG: return "the still is longer than 65,536 bytes, or the recipe longer than 4,096";
     case HEJSLOPI_FILE_UNREAD: return "a file cannot be opened, read or written";
+    case HEJSLOPI_STILL_NUMBER: return "the number to add is already there, or the number to remove is not";
+    case HEJSLOPI_STILL_SIZE: return "the still has another size or other channels than those held";
+    case HEJSLOPI_BACKGROUND_FULL: return "a thousand stills are already held";
     default: return "unknown";
     }
 }
 
 /* How many elements must be lent for a picture of w by h.
  * SUMS is for one box stage of radii r, s: a recipe needs the largest of its box stages, 0 if it has none. SUMS_ANY is enough
- * for every recipe. FILE_ANY is enough for every file of w by h: its header has at most 17 bytes. A plane's output needs w*h. */
+ * for every recipe. FILE_ANY is enough for every file of w by h: its header has at most 17 bytes. A plane's output needs w*h.
+ * BACKGROUND_RASTERS and BACKGROUND_LABELS are for a background of k stills, at most 1,000. */
 #define HEJSLOPI_WORK(w, h) ((size_t)2 * (w) * (h))
 #define HEJSLOPI_ROWS(w, h) ((size_t)(w) * ((size_t)(h) + 30))
 #define HEJSLOPI_SUMS(w, h, r, s) (((size_t)(w) + 2 * (size_t)(r) + 1) * ((size_t)(h) + 2 * (size_t)(s) + 1))
 #define HEJSLOPI_SUMS_ANY(w, h) HEJSLOPI_SUMS(w, h, 15, 15)
 #define HEJSLOPI_FILE_ANY(w, h, channels) ((size_t)17 + (size_t)(w) * (h) * (channels))
+#define HEJSLOPI_BACKGROUND_RASTERS(w, h, channels, k) ((size_t)(w) * (h) * (channels) * (k))
+#define HEJSLOPI_BACKGROUND_LABELS(k) ((size_t)2 * (k))
 
 /* Read a still, a whole P5 or P6 file.
  * result: width, height, channels (1 or 3), and at which index of `bytes` the raster begins.
@@ -141,6 +152,44 @@ uint32_t hejslopi_filter_file(const uint8_t *recipe, size_t recipe_len,
                               int32_t *rows, size_t rows_len,
                               uint32_t *sums, size_t sums_len,
                               uint8_t *out, size_t out_len, uint64_t result[5]);
+
+/* A background: up to 1,000 stills of one size, and their mean. It lies in memory that the caller lends to each call anew:
+ * - held: how many stills there are, and their width, height and channels. All 0 at first.
+ * - rasters: the rasters of the stills held, one behind the other.
+ * - labels: for each of them, in the same order, its number and its T.
+ * A call that is done leaves all three as the next one wants them. What is in rasters and labels behind the stills held is never
+ * looked at, and stays as it is. Both may lie elsewhere at the next call and be longer or shorter, if what was there comes along.
+ * A number above 65,535 in `held`, which no call leaves there, is answered with 20 unless no stills are held. */
+
+/* Add a still, a whole P5 or P6 file, with its number and its T (its tolerance in 65,536ths of a grey level).
+ * The first still decides the size, also once all have been removed.
+ * Needs: BACKGROUND_RASTERS bytes in rasters and BACKGROUND_LABELS in labels, for the stills held and this one.
+ * held: one still more, and its size.
+ * Refusals: 1 to 6, then 20 if there is not even room for the stills held, then 23, 24, 25, 20. */
+uint32_t hejslopi_background_add(const uint8_t *still, size_t still_len,
+                                 uint32_t number, uint32_t tolerance,
+                                 uint8_t *rasters, size_t rasters_len,
+                                 uint32_t *labels, size_t labels_len, uint64_t held[4]);
+
+/* Remove the still of a number. The last one takes its place.
+ * Needs: BACKGROUND_RASTERS bytes in rasters and BACKGROUND_LABELS in labels, for the stills held.
+ * held: one still less; the size stays.
+ * Refusals: 20, 23. */
+uint32_t hejslopi_background_remove(uint32_t number,
+                                    uint8_t *rasters, size_t rasters_len,
+                                    uint32_t *labels, size_t labels_len, uint64_t held[4]);
+
+/* The mean of the stills held, sample by sample, halves up: a raster, without a header.
+ * Needs: BACKGROUND_RASTERS bytes in rasters and BACKGROUND_LABELS in labels, for the stills held; a raster's bytes in out.
+ * result: how many stills are held, T, and how many bytes of out were written. Where none are held all three are 0, nothing is
+ * written, and nothing is refused.
+ * T is the largest T of the stills held and 32,768 more, at most 16,711,680. If each still lies within its T of an exact one, no
+ * written sample is more than T / 65,536 away from the mean of the exact ones.
+ * Refusals: 20. */
+uint32_t hejslopi_background_mean(const uint8_t *rasters, size_t rasters_len,
+                                  const uint32_t *labels, size_t labels_len,
+                                  const uint64_t held[4],
+                                  uint8_t *out, size_t out_len, uint64_t result[3]);
 
 #ifdef __cplusplus
 }

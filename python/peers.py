@@ -1,5 +1,5 @@
 #!/usr/bin/env python3
-"""peers.py [FILE]: times OpenCV and SciPy on the work of rust/examples/benchmark.rs, where they are installed.
+"""peers.py [FILE]: times OpenCV and SciPy on the work of rust/examples/benchmark.rs, where they are installed, and NumPy on the mean of a background.
 
 It writes a line for each: work, size, peer, nanoseconds a sample (best of several runs, one thread, buffers warm), and `=` where
 the peer's samples are those of document 01 on this picture, `~` where some differ, with tabs between. On standard error it says
@@ -28,6 +28,9 @@ except ImportError:
     ndimage = None
 
 SIZES = [(96, 72), (1024, 768)]
+
+# How many stills a background has.
+KEPT = 100
 
 
 def picture(w, h):
@@ -175,6 +178,17 @@ def by_scipy(stage):
     return weights
 
 
+def mean_in_whole_numbers(stills):
+    """The mean of stills as document 02 has it: halves go up."""
+    k = len(stills)
+    return ((2 * stills.sum(axis=0, dtype=numpy.int64) + k) // (2 * k)).astype(numpy.uint8)
+
+
+def mean_by_numpy(stills):
+    """In binary64, where the sums of so few samples and their halves are exact."""
+    return numpy.floor(stills.mean(axis=0) + 0.5).astype(numpy.uint8)
+
+
 def chain(stages):
     def run(x):
         for stage in stages:
@@ -200,11 +214,11 @@ def main():
     out = open(sys.argv[1], "w") if len(sys.argv) > 1 else sys.stdout
     peers = [(name, make) for name, there, make in (("opencv", cv2, by_opencv), ("scipy", ndimage, by_scipy)) if there]
 
-    def say(work, w, h, peer, run, given, wanted, samples):
+    def say(work, w, h, peer, run, given, wanted, samples, stills=1):
         got = samples(run(given))
         apart = numpy.abs(got.astype(int) - wanted.astype(int))
         sign = "~" if apart.any() else "="
-        print("%s\t%dx%d\t%s\t%.2f\t%s" % (work, w, h, peer, best(lambda: run(given)) / (w * h), sign), file=out, flush=True)
+        print("%s\t%dx%d\t%s\t%.2f\t%s" % (work, w, h, peer, best(lambda: run(given)) / (w * h * stills), sign), file=out, flush=True)
         print("%s %dx%d %s: %d samples differ, by at most %d" % (work, w, h, peer, (apart > 0).sum(), apart.max()), file=sys.stderr)
 
     for work, stages in WORK:
@@ -227,6 +241,9 @@ def main():
 
             still = b"P5\n%d %d\n255\n" % (w, h) + x.tobytes()
             say("file, bin. 3x3", w, h, "opencv", file, still, document_01(("weights", binomial(1)), x), samples)
+    w, h = SIZES[0]
+    stills = picture(w, KEPT * h).reshape(KEPT, h, w)
+    say("background mean", w, h, "numpy", mean_by_numpy, stills, mean_in_whole_numbers(stills), lambda y: y, KEPT)
 
 
 main()

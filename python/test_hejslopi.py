@@ -1,7 +1,10 @@
-"""Tests of the package: the calls on the vectors, recipes built from descriptions and back, and places at fault. Run: python3 python/test_hejslopi.py"""
+"""Tests of the package: the calls on the vectors, backgrounds, recipes built from descriptions and back, and places at fault. Run: python3 python/test_hejslopi.py"""
 import array
+import inspect
 import os
 import pickle
+import random
+import re
 import resource
 import subprocess
 import sys
@@ -163,6 +166,180 @@ class Calls(unittest.TestCase):
         code = ("import hejslopi\nstill = b'P5\\n8192 8192\\n255\\n' + bytes(8192 * 8192)\n"
                 "assert len(hejslopi.filter_file(still, bytes.fromhex('01 04 01 00 01 01'))[0]) == len(still)\n")
         limit = lambda: resource.setrlimit(resource.RLIMIT_AS, (2 * needed, 2 * needed))
+        here = os.path.dirname(os.path.abspath(__file__))
+        done = subprocess.run([sys.executable, "-c", code], cwd=here, preexec_fn=limit, stderr=subprocess.PIPE, universal_newlines=True)
+        self.assertEqual((done.returncode, done.stderr), (0, ""))
+
+
+def grey(*samples):
+    """A still of one row."""
+    return b"P5\n%d 1\n255\n" % len(samples) + bytes(samples)
+
+
+class Plain:
+    """A background as a list of stills in the order in which they came, each a number, its T and its samples."""
+
+    def __init__(self):
+        self.stills = []
+
+    def add(self, samples, number, tolerance):
+        """The number of the refusal, or 0."""
+        if any(number == other for other, _, _ in self.stills):
+            return 23
+        if any(len(samples) != len(other) for _, _, other in self.stills):
+            return 24
+        if len(self.stills) == 1000:
+            return 25
+        self.stills.append((number, tolerance, samples))
+        return 0
+
+    def remove(self, number):
+        left = [still for still in self.stills if still[0] != number]
+        gone, self.stills = len(self.stills) - len(left), left
+        return 0 if gone else 23
+
+    def mean(self):
+        if not self.stills:
+            return None
+        means = [Fraction(sum(column), len(self.stills)) for column in zip(*(samples for _, _, samples in self.stills))]
+        return bytes((mean + Fraction(1, 2)).__floor__() for mean in means), min(max(T for _, T, _ in self.stills) + 32768, 255 * 65536)
+
+
+class Backgrounds(unittest.TestCase):
+    @staticmethod
+    def answer(change, *arguments):
+        """The number of the refusal, or 0."""
+        try:
+            change(*arguments)
+        except hejslopi.Refusal as refusal:
+            return refusal.number
+        return 0
+
+    def test_by_hand(self):
+        """21/2 and 505/2 go up, 34/3 and 505/3 do not; without the second still it is 23/2 and 250/2."""
+        background = hejslopi.Background()
+        self.assertIsNone(background.mean())
+        for still, mean in (((grey(10, 250), 7, 100), ([10, 250], 32868)), ((grey(11, 255), 8, 300), ([11, 253], 33068)), ((grey(13, 0), 9, 200), ([11, 168], 33068))):
+            background.add(*still)
+            self.assertEqual(background.mean(), (bytes(mean[0]), mean[1]))
+        background.remove(8)
+        self.assertEqual((background.mean(), len(background)), ((bytes([12, 125]), 32968), 2))
+
+    def test_lists(self):
+        """Random additions and removals, beside a list of stills."""
+        chance, tried = random.Random(202602), set()
+        for _ in range(300):
+            background, plain = hejslopi.Background(), Plain()
+            for _ in range(chance.randrange(60)):
+                number = chance.choice((0, 1, 2, 3, 4, 5, 6, 4294967295))
+                if chance.random() < 0.4:
+                    answer, expected = self.answer(background.remove, number), plain.remove(number)
+                else:
+                    samples = bytes(chance.choices(range(256), k=chance.choice((3, 3, 3, 3, 3, 3, 2))))
+                    tolerance = chance.choice((0, 34301, 98060, 16678912, 4294967295))
+                    answer, expected = self.answer(background.add, grey(*samples), number, tolerance), plain.add(samples, number, tolerance)
+                self.assertEqual(answer, expected)
+                self.assertEqual((background.mean(), len(background)), (plain.mean(), len(plain.stills)))
+                tried.add(answer)
+        self.assertEqual(tried, {0, 23, 24})
+
+    def test_a_thousand_and_one_more(self):
+        background, plain = hejslopi.Background(), Plain()
+        for number in range(1000):
+            samples = (255, number % 256)
+            self.assertEqual((self.answer(background.add, grey(*samples), number, 0), plain.add(samples, number, 0)), (0, 0))
+        for still, number, refusal in ((b"P7", 7, 1), (grey(1), 7, 23), (grey(1), 1000, 24), (grey(1, 2), 1000, 25)):
+            self.assertEqual(self.answer(background.add, still, number, 4294967295), refusal)
+            self.assertEqual((background.mean(), len(background)), (plain.mean(), 1000))
+        background.remove(7)
+        self.assertEqual(self.answer(background.add, grey(1, 2), 1000, 0), 0)
+
+    def test_scripts(self):
+        """The scripts among the vectors. Memory of its own is never too short: without the steps that were lent too little, all others have their answers."""
+        tried = 0
+        for name in sorted(os.listdir(VECTORS)):
+            if not os.path.exists(os.path.join(VECTORS, name, "script")):
+                continue
+            background = hejslopi.Background()
+            steps = [line.split() for line in contents(name, "script").decode().splitlines() if not line.startswith("lend ")]
+            answers = contents(name, "line").decode().splitlines()
+            self.assertEqual(len(steps), len(answers))
+            for step, expected in zip(steps, answers):
+                if expected != "no 20":
+                    tried += 1
+                    with self.subTest(name, step=step):
+                        self.assertEqual(self.said(background, name, step), expected)
+        self.assertGreater(tried, 1000)
+
+    def said(self, background, name, step):
+        """A step's answer as the vectors have it."""
+        word, *rest = step
+        if word == "mean":
+            mean = background.mean()
+            return "mean %d %s" % (mean.tolerance, mean.raster.hex()) if mean else "none"
+        if word == "add":
+            refusal = self.answer(background.add, contents(name, rest[2]), int(rest[0]), int(rest[1]))
+        else:
+            refusal = self.answer(background.remove, int(rest[0]))
+        return "no %d" % refusal if refusal else "ok"
+
+    def test_sizes(self):
+        """A background that has been emptied takes another size, in colour too."""
+        background = hejslopi.Background()
+        background.add(grey(1, 2, 3, 4), 1, 0)
+        background.remove(1)
+        background.add(b"P6\n1 2\n255\nabcdef", 1, 0)
+        self.assertEqual(background.mean(), (b"abcdef", 32768))
+        self.assertEqual(self.answer(background.add, grey(1, 2, 3, 4, 5, 6), 2, 0), 24)
+
+    def test_wrong_arguments(self):
+        """Said in one line, and the background is as it was."""
+        background = hejslopi.Background()
+        background.add(grey(1, 2), 7, 0)
+        table = [(wrong, TypeError, "a whole number is needed, and this is of type %s" % kind) for wrong, kind in ((True, "bool"), (7.0, "float"), ("7", "str"), (None, "NoneType"))]
+        table += [(wrong, ValueError, "found %d, allowed: 0 to 4,294,967,295" % wrong) for wrong in (-1, 1 << 32, (1 << 32) + 7, 1 << 70)]
+        for wrong, kind, words in table:
+            for name, call in (("number", lambda: background.add(grey(1, 2), wrong, 0)), ("tolerance", lambda: background.add(grey(1, 2), 8, wrong)),
+                               ("number", lambda: background.remove(wrong))):
+                with self.subTest(name, wrong=wrong), self.assertRaises(kind) as raised:
+                    call()
+                self.assertEqual(str(raised.exception), "%s: %s" % (name, words))
+        for wrong in (5, "P5", None, [1]):
+            with self.assertRaisesRegex(TypeError, "^still: bytes are needed"):
+                background.add(wrong, 8, 0)
+        self.assertEqual((background.mean(), len(background)), ((b"\x01\x02", 32768), 1))
+
+    def test_bytes_like(self):
+        for kind in (bytes, bytearray, memoryview, lambda data: array.array("B", data)):
+            background = hejslopi.Background()
+            background.add(kind(grey(1, 2)), 4294967295, 4294967295)
+            self.assertEqual(background.mean(), (b"\x01\x02", 255 * 65536))
+            background.remove(4294967295)
+
+    def test_what_was_found(self):
+        background = hejslopi.Background()
+        background.add(grey(1, 2), 7, 0)
+        for call, number, where in ((lambda: background.add(grey(1, 2), 7, 0), 23, "number 7, stills held: 1"), (lambda: background.remove(8), 23, "number 8, stills held: 1"),
+                                    (lambda: background.add(b"P6\n1 3\n255\nabcdefghi", 8, 0), 24, "found 1 by 3, channels: 3; held: 2 by 1, channels: 1"),
+                                    (lambda: background.add(b"P5\n2 1\n255\na", 8, 0), 5, "found 1, needed for 2 by 1: 2")):
+            with self.assertRaises(hejslopi.Refusal) as raised:
+                call()
+            self.assertEqual((raised.exception.number, raised.exception.where), (number, where))
+
+    def test_help(self):
+        """The example of its help does what is said there."""
+        text, names = inspect.getdoc(hejslopi.Background), {"hejslopi": hejslopi}
+        exec("\n".join(line[4:] for line in text.splitlines() if line.startswith("    ")), names)
+        samples, tolerance = re.search(r"# samples ([\d ]+), and (\d+)", text).groups()
+        self.assertEqual((names["raster"], names["T"]), (bytes(map(int, samples.split())), int(tolerance)))
+        self.assertEqual(len(names["background"]), int(re.search(r"is (\d+) now", text).group(1)))
+
+    def test_no_memory(self):
+        """Where memory ends, the background is as it was: with a quarter of what is there at least filled, and its mean still to be had."""
+        code = ("import hejslopi\nbackground, still = hejslopi.Background(), b'P5\\n8192 1024\\n255\\n' + bytes([7]) * (1 << 23)\n"
+                "try:\n    while True: background.add(still, len(background), len(background))\nexcept MemoryError: pass\n"
+                "assert background.mean() == (bytes([7]) * (1 << 23), len(background) - 1 + 32768)\nassert len(background) >= 16, len(background)\n")
+        limit = lambda: resource.setrlimit(resource.RLIMIT_AS, (1 << 29, 1 << 29))
         here = os.path.dirname(os.path.abspath(__file__))
         done = subprocess.run([sys.executable, "-c", code], cwd=here, preexec_fn=limit, stderr=subprocess.PIPE, universal_newlines=True)
         self.assertEqual((done.returncode, done.stderr), (0, ""))

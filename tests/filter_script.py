@@ -97,7 +97,7 @@ def elsewhere(calls):
 def refusals(calls):
     """One vector for each number that no stage causes, the first that has it."""
     vectors = os.path.abspath(os.path.join(program.DATA, "vectors"))
-    lines = {name: folders.bytes_of(os.path.join(vectors, name, "line")).decode() for name in sorted(os.listdir(vectors))}
+    lines = {name: folders.bytes_of(os.path.join(vectors, name, "line")).decode() for name in program.vector_names("vectors")}
     written(calls.at("kept"), program.OLD)
     for number in (1, 2, 3, 4, 5, 6, 10, 12, 20):
         first = next(name for name, line in lines.items() if line == "no %d\n" % number)

@@ -224,6 +224,12 @@ def laid_as(path):
     return nothing if data is None else holding(data)
 
 
+def vector_names(kind):
+    """The folders of a kind that are the program's. A script is of a background, which the program knows nothing of: Rust's and Python's tests run it."""
+    whole = os.path.join(DATA, kind)
+    return [name for name in sorted(os.listdir(whole)) if not os.path.exists(os.path.join(whole, name, "script"))]
+
+
 def vector(name):
     """A folder of the conformance data. One that does not say what belongs to it is no vector."""
     path = os.path.join(DATA, name)
@@ -235,8 +241,8 @@ def vector(name):
 
 
 def try_vectors(tally, program):
-    """Each folder with a line, whatever it holds beside it."""
-    names = [os.path.join(kind, name) for kind in ("vectors", "bench") for name in sorted(os.listdir(os.path.join(DATA, kind)))]
+    """Each folder with a line of the program's, whatever it holds beside it."""
+    names = [os.path.join(kind, name) for kind in ("vectors", "bench") for name in vector_names(kind)]
     try_all(tally, program, [vector(name) for name in names])
 
 

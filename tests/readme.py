@@ -161,6 +161,19 @@ def from_python(tally, room):
     tally.equal("the example in Python", answer, (0, "%s %s\n" % (samples, tolerance)))
 
 
+def from_viewer(tally, room):
+    """The lines of a viewer that keeps a background, behind those that make their recipe: what they print, and the remark about the mean."""
+    text = section("From Python")
+    lines = printed(text, "background = ")
+    _, number = command_of(lines, "    print(")
+    _, mean = command_of(lines, "raster, T = background.mean()")
+    samples, tolerance = (found(pattern, mean, "mean of a background") for pattern in (r"^((?:[0-9A-F]{2} ?)+),", r"and (\d+);"))
+    body = printed(text, "import hejslopi") + lines + ["print(raster.hex(' ').upper(), T)"]
+    written(os.path.join(room, "viewer.py"), "\n".join(body).encode())
+    answer = says("%s viewer.py" % shlex.quote(sys.executable), room, PYTHONPATH="python")
+    tally.equal("the viewer in Python", answer, (0, "%s\n%s %s\n" % (number, samples, tolerance)))
+
+
 def described(room):
     """Lays the description in JSON, a still for it, and gives the lines of the commands below it."""
     lines = printed(section("From Python"), "[{")
@@ -248,7 +261,7 @@ def outline_kernels(tally, room):
 
 def try_readme(tally):
     """Each example in a folder of its own, so that none finds what another has made. One that is not there is a failure and stops no other."""
-    for example in (from_shell, sizes, recipes, outline_kernels, from_c, c_program, from_python, python_commands, python_commands_on, from_rust, rust_program):
+    for example in (from_shell, sizes, recipes, outline_kernels, from_c, c_program, from_python, from_viewer, python_commands, python_commands_on, from_rust, rust_program):
         with folders.fresh_folder() as room:
             stand_in(room)
             try:

@@ -4,12 +4,14 @@
     recipe = hejslopi.recipe([{"kind": "binomial", "across": 1, "down": 1, "border": "nearest"}])
     picture, T = hejslopi.filter_file(open("still.pgm", "rb").read(), recipe)
 
-Five calls: `read_still`, `write_still`, `read_recipe`, `filter_plane`, `filter_file`. One that cannot be done raises `Refusal`, with the number in `.number` and
-its meaning as the text. `recipe` makes a recipe's bytes of a description, `describe` the reverse, `explain` says what a recipe does.
+Eight calls: `read_still`, `write_still`, `read_recipe`, `filter_plane`, `filter_file`, and the `add`, `remove` and `mean` of a `Background`, which keeps stills and
+gives their mean. One that cannot be done raises `Refusal`, with the number in `.number` and its meaning as the text. `recipe` makes a recipe's bytes of a
+description, `describe` the reverse, `explain` says what a recipe does.
 
 The library is made once by `rt staticlib capi` at the top of the repository, and this package makes a shared object of it with the machine's cc, beside
 it. HEJSLOPI_LIB_DIR may name another folder of libcapi.a.
 """
+from .background import Background, Mean
 from .calls import FilteredFile, FilteredPlane, Recipe, Still, filter_file, filter_plane, read_recipe, read_still, sums_needed, write_still
 from .describing import describe
 from .descriptions import recipe
@@ -22,6 +24,6 @@ from .version import VERSION
 __version__ = VERSION
 
 __all__ = [
-    "FilteredFile", "FilteredPlane", "LibraryError", "MEANINGS", "Mistake", "Recipe", "Refusal", "Still",
+    "Background", "FilteredFile", "FilteredPlane", "LibraryError", "MEANINGS", "Mean", "Mistake", "Recipe", "Refusal", "Still",
     "describe", "explain", "filter_file", "filter_plane", "read_recipe", "read_still", "recipe", "sums_needed", "write_still",
 ]

@@ -1,4 +1,4 @@
-"""The five calls. Each takes bytes-like objects only, and raises `Refusal` where the library refuses; nothing is kept between calls."""
+"""The five calls on stills and recipes. Each takes bytes-like objects only, and raises `Refusal` where the library refuses; nothing is kept between calls."""
 from __future__ import annotations
 
 import ctypes
@@ -7,13 +7,14 @@ from typing import Any, NamedTuple, Tuple, Union
 
 from . import faults
 from .library import call
-from .messages import shown
+from .messages import found, shown
 from .refusals import OF_RECIPES, Refusal
 from .stage_bytes import read_stages
 
 BytesLike = Union[bytes, bytearray, memoryview]
 
 MOST_SIDE = 8192
+MOST_WORD = (1 << 32) - 1
 
 
 class Still(NamedTuple):
@@ -58,15 +59,28 @@ def taken(name: str, given: BytesLike) -> bytes:
     return view.tobytes()
 
 
+def whole(name: str, given: int) -> int:
+    """A whole number. True and false are none."""
+    try:
+        if not isinstance(given, bool):
+            return operator.index(given)
+    except TypeError:
+        pass
+    raise TypeError("%s: a whole number is needed, and this is of type %s" % (name, type(given).__name__))
+
+
 def size(name: str, given: int) -> int:
     """A number for the library. One that no machine word holds is as far from every allowed one as 0, which is handed on in its place."""
-    if isinstance(given, bool):
-        raise TypeError("%s: a whole number is needed, and this is of type bool" % name)
-    try:
-        number = operator.index(given)
-    except TypeError:
-        raise TypeError("%s: a whole number is needed, and this is of type %s" % (name, type(given).__name__)) from None
+    number = whole(name, given)
     return number if 0 <= number < 1 << 64 else 0
+
+
+def word(name: str, given: int) -> int:
+    """A number of 32 bits for the library, which knows no refusal for another one."""
+    number = whole(name, given)
+    if not 0 <= number <= MOST_WORD:
+        raise ValueError(found(name, shown(number), "0 to %s" % format(MOST_WORD, ",")))
+    return number
 
 
 def results(count: int) -> Any:

@@ -82,14 +82,17 @@ def loaded() -> ctypes.CDLL:
 
 
 def call(name: str, *arguments: Any) -> int:
-    """Calls a function: 0, or the number of the refusal. Bytes and arrays go as pointer and length, the last argument, its results, as a pointer."""
+    """Calls a function: 0, or the number of the refusal. Bytes and arrays go as pointer and length, the last argument, its results, as a pointer. Numbers go
+    as sizes, and what is neither, a number or a pointer of ctypes, as it is."""
     flat = []
     for argument in arguments[:-1]:
         if isinstance(argument, int):
             flat.append(ctypes.c_size_t(argument))
-        else:
+        elif hasattr(argument, "__len__"):
             held = ctypes.c_char_p(argument) if isinstance(argument, bytes) else argument
             flat += [held, ctypes.c_size_t(len(argument))]
+        else:
+            flat.append(argument)
     try:
         function = getattr(loaded(), name)
     except AttributeError:

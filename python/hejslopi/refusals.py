@@ -21,9 +21,12 @@ MEANINGS = {
     18: "a rank's position is 0 or above the number of samples in its window",
     19: "the number of channels is neither 1 nor 3",
     20: "a lent buffer has less room than the call needs",
+    23: "the number to add is already there, or the number to remove is not",
+    24: "the still has another size or other channels than those held",
+    25: "a thousand stills are already held",
 }
 
-# The numbers whose cause lies in the recipe; all others lie in the still or in the call.
+# The numbers whose cause lies in the recipe; all others lie in the still, in the call or in a background.
 OF_RECIPES = range(10, 19)
 
 

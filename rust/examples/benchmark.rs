@@ -1,8 +1,10 @@
-//! benchmark [PEERS]: one table in nanoseconds a sample, best of several runs, one thread, buffers warm.
+//! benchmark [PEERS]: tables in nanoseconds, a sample or a call, best of several runs, one thread, buffers warm.
 //! Run it by `cargo run --release --example benchmark`. PEERS is a file that `python/peers.py` wrote; without it those columns are empty.
 #[path = "../tests/reference/mod.rs"]
 mod reference;
 
+use hejslopi::Held;
+use reference::background::Stills;
 use std::collections::HashMap;
 use std::hint::black_box;
 use std::time::{Duration, Instant};
@@ -20,12 +22,18 @@ fn picture(count: usize) -> Vec<u8> {
 
 /// The best time of one run, of at least three and for about half a second.
 fn best(mut run: impl FnMut()) -> Duration {
+    best_after(|| (), |()| run())
+}
+
+/// The same of a run that something is made for each time, which does not count.
+fn best_after<T>(mut make: impl FnMut() -> T, mut run: impl FnMut(&mut T)) -> Duration {
     let mut best = Duration::MAX;
     let start = Instant::now();
     let mut runs = 0;
     while runs < 3 || (start.elapsed() < Duration::from_millis(500) && runs < 100_000) {
+        let mut made = make();
         let before = Instant::now();
-        run();
+        run(&mut made);
         best = best.min(before.elapsed());
         runs += 1;
         if start.elapsed() > Duration::from_secs(10) {
@@ -87,20 +95,121 @@ struct Table {
 }
 
 impl Table {
+    /// What a peer takes, or a dash where it was not tried.
+    fn peer(&self, work: &str, size: &str, peer: &str) -> &str {
+        let entry = self.peers.get(&format!("{work}\t{size}\t{peer}"));
+        entry.map_or("-", |time| time)
+    }
+
     fn row(&self, work: &str, size: &str, library: f64, plain: Option<f64>) {
-        let peer = |peer: &str| {
-            self.peers
-                .get(&format!("{work}\t{size}\t{peer}"))
-                .map_or("-", |t| t)
-        };
         let (plain, ratio) = match plain {
             Some(plain) => (format!("{plain:.2}"), format!("{:.1}", plain / library)),
             None => ("-".into(), "-".into()),
         };
         println!(
             "| {work:<16} | {size:<8} | {library:>9.2} | {plain:>10} | {ratio:>6} | {:>10} | {:>10} |",
-            peer("opencv"),
-            peer("scipy")
+            self.peer(work, size, "opencv"),
+            self.peer(work, size, "scipy")
+        );
+    }
+}
+
+// A background of a hundred stills.
+
+const KEPT: usize = 100;
+
+/// The stills, and memory that holds them all.
+struct Kept {
+    stills: Vec<Vec<u8>>,
+    rasters: Vec<u8>,
+    labels: Vec<u32>,
+    held: Held,
+    plain: Stills,
+}
+
+impl Kept {
+    fn new(w: usize, h: usize) -> Kept {
+        let samples = picture(KEPT * w * h);
+        let still = |raster: &[u8]| hejslopi::write_still(w, h, 1, raster).unwrap();
+        let needs = hejslopi::background_needs(w, h, 1, KEPT).unwrap();
+        let mut kept = Kept {
+            stills: samples.chunks(w * h).map(still).collect(),
+            rasters: vec![0; needs.rasters],
+            labels: vec![0; needs.labels],
+            held: Held::default(),
+            plain: Stills::default(),
+        };
+        for number in 0..KEPT {
+            kept.add(number);
+            let still = &kept.stills[number];
+            kept.plain.add(still, number as u32, 0).unwrap();
+        }
+        kept
+    }
+
+    fn add(&mut self, number: usize) {
+        let (still, number) = (&self.stills[number], number as u32);
+        let (rasters, labels) = (&mut self.rasters, &mut self.labels);
+        hejslopi::add_still_into(still, number, 0, rasters, labels, &mut self.held).unwrap();
+    }
+
+    /// The last still added to the others, by the library and by the plain reading.
+    fn addition(&mut self) -> [Duration; 2] {
+        let last = KEPT - 1;
+        let library = best(|| {
+            self.held.stills = last;
+            self.add(last);
+        });
+        let mut others = self.plain.clone();
+        others.remove(last as u32).unwrap();
+        let still = &self.stills[last];
+        let add = |stills: &mut Stills| stills.add(still, last as u32, 0).unwrap();
+        [library, best_after(|| others.clone(), add)]
+    }
+
+    /// One from the middle. The last takes its place, which is as long a copy wherever that is.
+    fn removal(&mut self) -> [Duration; 2] {
+        let middle = KEPT / 2;
+        let library = best(|| {
+            self.held.stills = KEPT;
+            self.labels[2 * middle] = middle as u32;
+            let (rasters, labels) = (&mut self.rasters, &mut self.labels);
+            hejslopi::remove_still_from(middle as u32, rasters, labels, &mut self.held).unwrap();
+        });
+        let remove = |stills: &mut Stills| stills.remove(middle as u32).unwrap();
+        [library, best_after(|| self.plain.clone(), remove)]
+    }
+
+    fn mean(&self) -> [Duration; 2] {
+        let mut out = vec![0; self.held.width * self.held.height];
+        let (rasters, labels) = (&self.rasters, &self.labels);
+        let library = best(|| {
+            hejslopi::mean_still_into(rasters, labels, &self.held, &mut out).unwrap();
+        });
+        let plain = best(|| assert!(self.plain.mean().unwrap().1 == out));
+        [library, plain]
+    }
+}
+
+fn background(table: &Table) {
+    let (w, h) = SIZES[0];
+    let mut kept = Kept::new(w, h);
+    println!("\nA background of {KEPT} stills of {w}x{h}, grey, in lent memory. The mean goes through all their samples; an addition and a removal copy one still.\n");
+    println!("| work     | samples | library: a call | a sample | plain Rust: a call | ratio | NumPy: a sample |");
+    println!("|----------|--------:|----------------:|---------:|-------------------:|------:|----------------:|");
+    // the removal comes last: it leaves other stills than it found
+    let rows = [
+        ("mean", KEPT * w * h, kept.mean()),
+        ("addition", w * h, kept.addition()),
+        ("removal", w * h, kept.removal()),
+    ];
+    for (work, samples, times) in rows {
+        let [library, plain] = times.map(|time| time.as_nanos() as f64);
+        println!(
+            "| {work:<8} | {samples:>7} | {library:>15} | {:>8.2} | {plain:>18} | {:>5.1} | {:>15} |",
+            library / samples as f64,
+            plain / library,
+            table.peer(&format!("background {work}"), &format!("{w}x{h}"), "numpy")
         );
     }
 }
@@ -195,6 +304,7 @@ fn main() {
             Some(each(plain)),
         );
     }
+    background(&table);
     println!("\nReading a recipe, nanoseconds a call:\n");
     println!("| recipe       | bytes | library | plain Rust | ratio |");
     println!("|--------------|------:|--------:|-----------:|------:|");

@@ -1,8 +1,9 @@
-//! Netpbm stills (P5, P6) filtered by a recipe.
+//! Netpbm stills (P5, P6) filtered by a recipe, and their mean.
 //!
-//! Five calls: [`read_still`], [`write_still`], [`read_recipe`], [`filter_plane`], [`filter_file`]. Those that write have
-//! a form `.._into` that takes lent buffers and allocates nothing. A [`Refusal`] says why a call did nothing,
-//! and [`faulty_stage`] which stage of a recipe is to blame.
+//! Eight calls: [`read_still`], [`write_still`], [`read_recipe`], [`filter_plane`], [`filter_file`], and three on a [`Background`],
+//! which keeps stills and gives their mean. Those that write have a form `.._into` that takes lent buffers and allocates nothing
+//! ([`remove_still_from`] is that of a removal). A [`Refusal`] says why a call did nothing, and [`faulty_stage`] which stage of a
+//! recipe is to blame.
 //!
 //! ```
 //! let still = b"P5\n3 1\n255\n\x0A\x14\x28";
@@ -13,15 +14,18 @@
 //! # Ok::<(), hejslopi::Refusal>(())
 //! ```
 
+mod background;
 mod fault;
 pub mod raw;
 mod refusal;
 mod room;
 
+pub use background::{add_still_into, mean_still_into, remove_still_from};
+pub use background::{Background, Held, Mean, MeanPicture, MOST_STILLS};
 pub use fault::faulty_stage;
 pub use refusal::Refusal;
 use room::zeros;
-pub use room::{file_need, needs, Lent, Needs, Room};
+pub use room::{background_needs, file_need, needs, BackgroundNeeds, Lent, Needs, Room};
 
 /// What a still's header says, and at which byte its raster begins.
 #[derive(Clone, Copy, Debug, PartialEq, Eq)]

@@ -50,9 +50,41 @@ extern "C" {
         out_len: usize,
         result: *mut [u64; 5],
     ) -> u32;
+
+    pub fn hejslopi_background_add(
+        still: *const u8,
+        still_len: usize,
+        number: u32,
+        tolerance: u32,
+        rasters: *mut u8,
+        rasters_len: usize,
+        labels: *mut u32,
+        labels_len: usize,
+        held: *mut [u64; 4],
+    ) -> u32;
+
+    pub fn hejslopi_background_remove(
+        number: u32,
+        rasters: *mut u8,
+        rasters_len: usize,
+        labels: *mut u32,
+        labels_len: usize,
+        held: *mut [u64; 4],
+    ) -> u32;
+
+    pub fn hejslopi_background_mean(
+        rasters: *const u8,
+        rasters_len: usize,
+        labels: *const u32,
+        labels_len: usize,
+        held: *const [u64; 4],
+        out: *mut u8,
+        out_len: usize,
+        result: *mut [u64; 3],
+    ) -> u32;
 }
 
-// SAFETY, of all five below: each pointer is of a reference, with the length of its slice; `&mut` references do not overlap.
+// SAFETY, of all calls below: each pointer is of a reference, with the length of its slice; `&mut` references do not overlap.
 
 pub fn read_still(bytes: &[u8], result: &mut [u64; 4]) -> u32 {
     unsafe { hejslopi_read_still(bytes.as_ptr(), bytes.len(), result) }
@@ -129,4 +161,41 @@ pub fn filter_file(
         out,
         result
     )
+}
+
+pub fn background_add(
+    still: &[u8],
+    [number, tolerance]: [u32; 2],
+    rasters: &mut [u8],
+    labels: &mut [u32],
+    held: &mut [u64; 4],
+) -> u32 {
+    let (s, s_len) = (still.as_ptr(), still.len());
+    let (r, r_len) = (rasters.as_mut_ptr(), rasters.len());
+    let (l, l_len) = (labels.as_mut_ptr(), labels.len());
+    unsafe { hejslopi_background_add(s, s_len, number, tolerance, r, r_len, l, l_len, held) }
+}
+
+pub fn background_remove(
+    number: u32,
+    rasters: &mut [u8],
+    labels: &mut [u32],
+    held: &mut [u64; 4],
+) -> u32 {
+    let (r, r_len) = (rasters.as_mut_ptr(), rasters.len());
+    let (l, l_len) = (labels.as_mut_ptr(), labels.len());
+    unsafe { hejslopi_background_remove(number, r, r_len, l, l_len, held) }
+}
+
+pub fn background_mean(
+    rasters: &[u8],
+    labels: &[u32],
+    held: &[u64; 4],
+    out: &mut [u8],
+    result: &mut [u64; 3],
+) -> u32 {
+    let (r, r_len) = (rasters.as_ptr(), rasters.len());
+    let (l, l_len) = (labels.as_ptr(), labels.len());
+    let (out, out_len) = (out.as_mut_ptr(), out.len());
+    unsafe { hejslopi_background_mean(r, r_len, l, l_len, held, out, out_len, result) }
 }

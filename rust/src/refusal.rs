@@ -23,11 +23,14 @@ pub enum Refusal {
     Room = 20,
     FileLong = 21,
     FileUnread = 22,
+    StillNumber = 23,
+    StillSize = 24,
+    BackgroundFull = 25,
 }
 
 impl Refusal {
-    /// Every refusal. The last two are of programs that read files: no call gives them.
-    pub const ALL: [Refusal; 19] = [
+    /// Every refusal. 21 and 22 are of programs that read files: no call gives them.
+    pub const ALL: [Refusal; 22] = [
         Refusal::Magic,
         Refusal::Header,
         Refusal::Side,
@@ -47,6 +50,9 @@ impl Refusal {
         Refusal::Room,
         Refusal::FileLong,
         Refusal::FileUnread,
+        Refusal::StillNumber,
+        Refusal::StillSize,
+        Refusal::BackgroundFull,
     ];
 
     pub fn number(self) -> u32 {
@@ -80,6 +86,9 @@ impl fmt::Display for Refusal {
             Refusal::Room => "a lent buffer has less room than the call needs",
             Refusal::FileLong => "the still is longer than 65,536 bytes, or the recipe longer than 4,096",
             Refusal::FileUnread => "a file cannot be opened, read or written",
+            Refusal::StillNumber => "the number to add is already there, or the number to remove is not",
+            Refusal::StillSize => "the still has another size or other channels than those held",
+            Refusal::BackgroundFull => "a thousand stills are already held",
         })
     }
 }

@@ -1,4 +1,4 @@
-use crate::{read_recipe, Refusal};
+use crate::{read_recipe, Refusal, MOST_STILLS};
 
 /// How many elements must be lent: work bytes, row values, sums.
 #[derive(Clone, Copy, Debug, PartialEq, Eq)]
@@ -13,6 +13,13 @@ pub struct Lent<'a> {
     pub work: &'a mut [u8],
     pub rows: &'a mut [i32],
     pub sums: &'a mut [u32],
+}
+
+/// How many elements must be lent to a background: bytes of rasters, and labels.
+#[derive(Clone, Copy, Debug, PartialEq, Eq)]
+pub struct BackgroundNeeds {
+    pub rasters: usize,
+    pub labels: usize,
 }
 
 /// Allocated buffers, to be lent to any number of calls. One that there was no memory for is empty: a call that needs it refuses with
@@ -93,12 +100,33 @@ pub fn needs(recipe: &[u8], width: usize, height: usize) -> Result<Needs, Refusa
     })
 }
 
-/// How many bytes a file of this size has: header and raster.
-pub fn file_need(width: usize, height: usize, channels: usize) -> Result<usize, Refusal> {
+fn picture(width: usize, height: usize, channels: usize) -> Result<(), Refusal> {
     if channels != 1 && channels != 3 {
         return Err(Refusal::Channels);
     }
-    sides(width, height)?;
+    sides(width, height)
+}
+
+/// How many bytes a file of this size has: header and raster.
+pub fn file_need(width: usize, height: usize, channels: usize) -> Result<usize, Refusal> {
+    picture(width, height, channels)?;
     let digits = |n: usize| n.ilog10() as usize + 1;
     Ok(9 + digits(width) + digits(height) + width * height * channels)
+}
+
+/// What must be lent to a background of so many stills of this size, at most [`MOST_STILLS`]: `W H channels` bytes for each, and two labels.
+pub fn background_needs(
+    width: usize,
+    height: usize,
+    channels: usize,
+    stills: usize,
+) -> Result<BackgroundNeeds, Refusal> {
+    picture(width, height, channels)?;
+    if stills > MOST_STILLS {
+        return Err(Refusal::BackgroundFull);
+    }
+    Ok(BackgroundNeeds {
+        rasters: width * height * channels * stills,
+        labels: 2 * stills,
+    })
 }

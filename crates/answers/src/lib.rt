@@ -1,4 +1,4 @@
-// What the five calls answer: a refusal's number, or what was asked for.
+// What the calls answer: a refusal's number, or what was asked for.
 
 // Read a still: its size, and at which byte the raster begins.
 pub enum Still {
@@ -36,6 +36,31 @@ pub enum File {
         width: usize,
         height: usize,
         channels: usize,
+        tolerance: u64,
+        len: usize,
+    },
+}
+
+// What a background holds: how many stills, and the size of each. Behind an empty one no size is looked at.
+pub struct Held {
+    pub count: usize,
+    pub width: usize,
+    pub height: usize,
+    pub channels: usize,
+}
+
+// Add a still to a background, or remove one: what is held afterwards.
+pub enum Changed {
+    Refused(u8),
+    Holds(Held),
+}
+
+// The mean of a background: of how many stills, its T and the output's length; or that none are held.
+pub enum Mean {
+    Refused(u8),
+    NoStills,
+    Of {
+        stills: usize,
         tolerance: u64,
         len: usize,
     },

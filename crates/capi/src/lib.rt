@@ -1,8 +1,11 @@
-// The five calls for C and Rust. Each gives the refusal's number, or 0 and its numbers in a lent array.
+// The calls for C and Rust. Each gives the refusal's number, or 0 and its numbers in a lent array.
+ghost use lib.ListN.{length};
 ghost use Rattle.still_reader.specs.Read.{stillOf};
 ghost use Rattle.recipe.specs.Recipe.{recipeOf};
-ghost use Rattle.told.specs.Numbers.{Tells, stillTold, recipeTold};
-ghost use Rattle.capi.specs.Calls.{WritesStill, FiltersPlane, FiltersFile};
+ghost use Rattle.background.specs.Change.{addition, removal};
+ghost use Rattle.background.specs.Memory.{backgroundIn};
+ghost use Rattle.told.specs.Numbers.{Tells, stillTold, recipeTold, heldIn};
+ghost use Rattle.capi.specs.Calls.{WritesStill, FiltersPlane, FiltersFile, ChangesBackground, MeansStills};
 
 // Read a still: width, height, channels, and at which byte the raster begins.
 #[no_mangle]
@@ -74,6 +77,60 @@ pub extern "C" fn hejslopi_filter_file(
 {
     told::file(
         file_filter::filter_file(recipe, still, work, rows, sums, out),
+        result,
+    )
+}
+
+// Add a still to a background, with its number and its T: what is held is updated.
+#[no_mangle]
+pub extern "C" fn hejslopi_background_add(
+    still: &[u8],
+    number: u32,
+    tolerance: u32,
+    rasters: &mut [u8],
+    labels: &mut [u32],
+    held: &mut [u64; 4],
+) -> u32
+    ensures { λ r. ⌜ ChangesBackground (addition (now (still .entry)) number tolerance (length (now (rasters .entry))) (length (now (labels .entry))) (backgroundIn (heldIn (now (held .entry))) (now (rasters .entry)) (now (labels .entry)))) (now (rasters .entry)) (now (rasters .exit)) (now (labels .entry)) (now (labels .exit)) (now (held .entry)) (now (held .exit)) r ⌝ }
+{
+    let holds = told::held(held);
+    told::changed(
+        background_changes::add_still(holds, still, number, tolerance, rasters, labels),
+        held,
+    )
+}
+
+// Remove the still of a number from a background: what is held is updated.
+#[no_mangle]
+pub extern "C" fn hejslopi_background_remove(
+    number: u32,
+    rasters: &mut [u8],
+    labels: &mut [u32],
+    held: &mut [u64; 4],
+) -> u32
+    ensures { λ r. ⌜ ChangesBackground (removal number (length (now (rasters .entry))) (length (now (labels .entry))) (backgroundIn (heldIn (now (held .entry))) (now (rasters .entry)) (now (labels .entry)))) (now (rasters .entry)) (now (rasters .exit)) (now (labels .entry)) (now (labels .exit)) (now (held .entry)) (now (held .exit)) r ⌝ }
+{
+    let holds = told::held(held);
+    told::changed(
+        background_changes::remove_still(holds, number, rasters, labels),
+        held,
+    )
+}
+
+// The mean of a background: of how many stills, T and the output's length.
+#[no_mangle]
+pub extern "C" fn hejslopi_background_mean(
+    rasters: &[u8],
+    labels: &[u32],
+    held: &[u64; 4],
+    out: &mut [u8],
+    result: &mut [u64; 3],
+) -> u32
+    ensures { λ r. ⌜ MeansStills (backgroundIn (heldIn (now (held .entry))) (now (rasters .entry)) (now (labels .entry))) (now (rasters .entry)) (now (labels .entry)) (now (out .entry)) (now (out .exit)) (now (result .entry)) (now (result .exit)) r ⌝ }
+{
+    let holds = told::held(held);
+    told::mean(
+        background_mean::mean_still(holds, rasters, labels, out),
         result,
     )
 }

@@ -1,7 +1,7 @@
 // Makes the call that each argument describes on the files that it names, and prints what the call answers and leaves.
 // `PATH still` reads a still, writes it and reads it again; `PATH recipe` reads a recipe. `PATH back LENT RECIPE` filters a still by a recipe that gives it back.
 // `FOLDER file LENT` filters a folder's `still` by its `recipe`, and `FOLDER plane LENT W H FROM SKIP` what that still has from place FROM on. The output has to
-// be the folder's `out`, without its first SKIP bytes. LENT are four lengths: work bytes, row values, sums and output bytes.
+// be the folder's `out`, without its first SKIP bytes. LENT are four lengths: work bytes, row values, sums and output bytes. `FOLDER keep` runs a folder's `script`.
 mod calls;
 
 use answers::Recipe;
@@ -64,6 +64,15 @@ fn give_back(text: &[u8], path: &[u8]) {
     );
 }
 
+// A folder's script, on a background.
+fn keep(folder: &[u8]) {
+    let mut script = io::large_buffer();
+    let n = files::load(folder, b"script", 0, &mut script);
+    printing::text(b"steps:");
+    printing::end();
+    scripts::run(folder, &script[..n]);
+}
+
 // A folder's still, or its plane.
 fn filter(text: &[u8], folder: &[u8], asked: Asked) {
     let mut recipe = io::buffer();
@@ -84,6 +93,8 @@ fn make(text: &[u8]) {
         show_bytes(kind, path);
     } else if kind == b'b' {
         give_back(text, path);
+    } else if kind == b'k' {
+        keep(path);
     } else {
         filter(text, path, asked(text, kind));
     }

@@ -5,3 +5,4 @@ pub mod Near
 pub mod Machine
 pub mod Registers
 pub mod MulAdd
+pub mod Reciprocal

@@ -1,2 +1,1 @@
 pub mod Corners
-pub mod Quotient

@@ -1,4 +1,4 @@
--- Document 01's refusal numbers ('Who causes which refusal') by name, and tests in their order.
+-- The refusal numbers of document 01 ('Who causes which refusal') and of document 02 by name, and tests in their order.
 use Prim.Native.Nat.{ℕ}
 use mathlib.Core.Bool.{Bool, cond}
 use mathlib.Core.List.{List, [], _∷_}
@@ -66,6 +66,16 @@ fileLong = 21
 
 abbrev pub fileUnread : ℕ
 fileUnread = 22
+
+-- 23 to 25, of a background: a number to add that is there, or one to remove that is not · a still of another size than those held · a thousand held
+abbrev pub stillNumber : ℕ
+stillNumber = 23
+
+abbrev pub stillSize : ℕ
+stillSize = 24
+
+abbrev pub backgroundFull : ℕ
+backgroundFull = 25
 
 -- what must hold, and the refusal where it does not
 abbrev pub Test : Type 0

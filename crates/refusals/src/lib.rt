@@ -1,4 +1,4 @@
-// Document 01's refusal numbers ('Who causes which refusal') by name.
+// The refusal numbers of document 01 ('Who causes which refusal') and of document 02 by name.
 ghost use mathlib.Core.Path.{_≡_};
 ghost use Rattle.refusals.specs.Refusal.{andThen};
 
@@ -43,6 +43,13 @@ pub const ROOM: u8 = 20;
 pub const FILE_LONG: u8 = 21;
 
 pub const FILE_UNREAD: u8 = 22;
+
+// The background.
+pub const STILL_NUMBER: u8 = 23;
+
+pub const STILL_SIZE: u8 = 24;
+
+pub const BACKGROUND_FULL: u8 = 25;
 
 // What a run of tests finds: the refusal of the first that fails, or that all pass.
 pub enum Verdict {

@@ -2,6 +2,7 @@
 use Prim.Native.Nat.{ℕ}
 use mathlib.Core.Path.{_≡_}
 use mathlib.Core.List.{List, [], _∷_}
+use lib.ListN.{getD}
 use Rattle.answers.specs.declared.Still.{Still}
 use Rattle.answers.specs.declared.Still.the-variants as Still
 use Rattle.answers.specs.declared.Written.{Written}
@@ -12,6 +13,11 @@ use Rattle.answers.specs.declared.Filtered.{Filtered}
 use Rattle.answers.specs.declared.Filtered.the-variants as Filtered
 use Rattle.answers.specs.declared.File.{File}
 use Rattle.answers.specs.declared.File.the-variants as File
+use Rattle.answers.specs.declared.Held.{Held}
+use Rattle.answers.specs.declared.Changed.{Changed}
+use Rattle.answers.specs.declared.Changed.the-variants as Changed
+use Rattle.answers.specs.declared.Mean.{Mean}
+use Rattle.answers.specs.declared.Mean.the-variants as Mean
 
 -- an answer in numbers: one number for a refusal, with nothing beside it, or the values that were asked for
 pub data Told : Type 0 where
@@ -57,3 +63,18 @@ planeTold (Filtered.Tolerance T) = values (T ∷ [])
 abbrev pub fileTold : File → Told
 fileTold (File.Refused n) = refusal n
 fileTold (File.Picture W H c T n) = values (W ∷ H ∷ c ∷ T ∷ n ∷ [])
+
+-- what a background holds, as four numbers: how many stills, width, height, channels
+abbrev pub heldIn : List ℕ → Held
+heldIn ns = record { count = getD ns 0 0; width = getD ns 1 0; height = getD ns 2 0; channels = getD ns 3 0 }
+
+-- of `add_still` and `remove_still`: what is held afterwards
+abbrev pub changedTold : Changed → Told
+changedTold (Changed.Refused n) = refusal n
+changedTold (Changed.Holds h) = values (h .count ∷ h .width ∷ h .height ∷ h .channels ∷ [])
+
+-- of `mean_still`: of how many stills, T, and how many bytes were written; all 0 where none are held
+abbrev pub meanTold : Mean → Told
+meanTold (Mean.Refused n) = refusal n
+meanTold Mean.NoStills = values (0 ∷ 0 ∷ 0 ∷ [])
+meanTold (Mean.Of k T n) = values (k ∷ T ∷ n ∷ [])

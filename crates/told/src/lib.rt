@@ -1,10 +1,14 @@
 // The calls' answers as numbers: the refusal's is given back, or 0 and the values in a lent array.
+use answers::Changed;
 use answers::File;
 use answers::Filtered;
+use answers::Held;
+use answers::Mean;
 use answers::Recipe;
 use answers::Still;
 use answers::Written;
-ghost use Rattle.told.specs.Numbers.{Tells, stillTold, writtenTold, recipeTold, planeTold, fileTold};
+ghost use mathlib.Core.Path.{_≡_};
+ghost use Rattle.told.specs.Numbers.{Tells, stillTold, writtenTold, recipeTold, planeTold, fileTold, heldIn, changedTold, meanTold};
 
 pub fn still(answer: Still, result: &mut [u64; 4]) -> u32
     ensures { λ r. ⌜ Tells (stillTold answer) (now (result .entry)) (now (result .exit)) r ⌝ }
@@ -78,6 +82,55 @@ pub fn file(answer: File, result: &mut [u64; 5]) -> u32
                 tolerance,
                 len as u64,
             ];
+            0
+        }
+    }
+}
+
+// What is held, from the numbers that stand for it.
+pub fn held(numbers: &[u64; 4]) -> Held
+    ensures { λ r. ⌜ r ≡ heldIn (now (numbers .entry)) ⌝ }
+{
+    Held {
+        count: numbers[0] as usize,
+        width: numbers[1] as usize,
+        height: numbers[2] as usize,
+        channels: numbers[3] as usize,
+    }
+}
+
+pub fn changed(answer: Changed, held: &mut [u64; 4]) -> u32
+    ensures { λ r. ⌜ Tells (changedTold answer) (now (held .entry)) (now (held .exit)) r ⌝ }
+{
+    match answer {
+        Changed::Refused(n) => n as u32,
+        Changed::Holds(now) => {
+            *held = [
+                now.count as u64,
+                now.width as u64,
+                now.height as u64,
+                now.channels as u64,
+            ];
+            0
+        }
+    }
+}
+
+pub fn mean(answer: Mean, result: &mut [u64; 3]) -> u32
+    ensures { λ r. ⌜ Tells (meanTold answer) (now (result .entry)) (now (result .exit)) r ⌝ }
+{
+    match answer {
+        Mean::Refused(n) => n as u32,
+        Mean::NoStills => {
+            *result = [0, 0, 0];
+            0
+        }
+        Mean::Of {
+            stills,
+            tolerance,
+            len,
+        } => {
+            *result = [stills as u64, tolerance, len as u64];
             0
         }
     }

@@ -6,6 +6,34 @@
 
 #define CHECK(x) do { if (!(x)) { printf("line %d: %s\n", __LINE__, #x); return 1; } } while (0)
 
+/* A background in just as much memory as two stills need. */
+static int background(void)
+{
+    static const uint8_t first[] = "P5\n2 1\n255\n\x0A\xFA", second[] = "P5\n2 1\n255\n\x0B\xFF", other[] = "P5\n1 1\n255\n\x07";
+    uint8_t rasters[HEJSLOPI_BACKGROUND_RASTERS(2, 1, 1, 2)], out[2] = { 7, 7 };
+    uint32_t labels[HEJSLOPI_BACKGROUND_LABELS(2)];
+    const size_t bytes = sizeof rasters, numbers = HEJSLOPI_BACKGROUND_LABELS(2);
+    uint64_t held[4] = { 0, 0, 0, 0 }, result[3] = { 9, 9, 9 };
+
+    CHECK(bytes == 4 && numbers == 4);
+    CHECK(hejslopi_background_mean(rasters, bytes, labels, numbers, held, out, 0, result) == HEJSLOPI_DONE);
+    CHECK(result[0] == 0 && result[1] == 0 && result[2] == 0 && out[0] == 7 && out[1] == 7);
+    CHECK(hejslopi_background_add(first, sizeof first - 1, 7, 100, rasters, bytes, labels, numbers, held) == HEJSLOPI_DONE);
+    CHECK(hejslopi_background_add(first, sizeof first - 1, 7, 100, rasters, bytes, labels, numbers, held) == HEJSLOPI_STILL_NUMBER);
+    CHECK(hejslopi_background_add(other, sizeof other - 1, 8, 300, rasters, bytes, labels, numbers, held) == HEJSLOPI_STILL_SIZE);
+    CHECK(hejslopi_background_add(second, sizeof second - 1, 8, 300, rasters, bytes - 1, labels, numbers, held) == HEJSLOPI_ROOM);
+    CHECK(hejslopi_background_add(second, sizeof second - 1, 8, 300, rasters, bytes, labels, numbers - 1, held) == HEJSLOPI_ROOM);
+    CHECK(hejslopi_background_add(second, sizeof second - 1, 8, 300, rasters, bytes, labels, numbers, held) == HEJSLOPI_DONE);
+    CHECK(held[0] == 2 && held[1] == 2 && held[2] == 1 && held[3] == 1);
+    CHECK(hejslopi_background_mean(rasters, bytes, labels, numbers, held, out, 1, result) == HEJSLOPI_ROOM);
+    CHECK(hejslopi_background_mean(rasters, bytes, labels, numbers, held, out, 2, result) == HEJSLOPI_DONE);
+    CHECK(result[0] == 2 && result[1] == 33068 && result[2] == 2 && out[0] == 11 && out[1] == 253);
+    CHECK(hejslopi_background_remove(9, rasters, bytes, labels, numbers, held) == HEJSLOPI_STILL_NUMBER);
+    CHECK(hejslopi_background_remove(7, rasters, bytes, labels, numbers, held) == HEJSLOPI_DONE);
+    CHECK(held[0] == 1 && rasters[0] == 11 && rasters[1] == 255 && labels[0] == 8 && labels[1] == 300);
+    return 0;
+}
+
 int main(void)
 {
     static const uint8_t still[] = "P5\n3 1\n255\n\x0A\x14\x28";
@@ -38,7 +66,7 @@ int main(void)
     for (size_t k = 0; k < sizeof result; k++)
         CHECK(((const uint8_t *)result)[k] == 7);
 
-    /* the other four calls */
+    /* the other calls on stills and recipes */
     uint64_t four[4], two[2], one[1];
     CHECK(hejslopi_read_still(still, length, four) == HEJSLOPI_DONE);
     CHECK(four[0] == 3 && four[1] == 1 && four[2] == 1 && four[3] == 11);
@@ -60,8 +88,11 @@ int main(void)
     CHECK(strcmp(hejslopi_meaning(HEJSLOPI_DONE), "done") == 0);
     CHECK(strcmp(hejslopi_meaning(hejslopi_read_still(still, 1, four)), "the file does not begin with P5 or P6") == 0);
     CHECK(strcmp(hejslopi_meaning(HEJSLOPI_FILE_UNREAD), "a file cannot be opened, read or written") == 0);
+    CHECK(strcmp(hejslopi_meaning(HEJSLOPI_BACKGROUND_FULL), "a thousand stills are already held") == 0);
     CHECK(strcmp(hejslopi_meaning(7), "unknown") == 0 && strcmp(hejslopi_meaning(99), "unknown") == 0);
 
+    if (background() != 0)
+        return 1;
     puts("ok");
     return 0;
 }

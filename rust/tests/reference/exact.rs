@@ -84,6 +84,26 @@ pub fn chain(stages: &[Stage], w: usize, h: usize, plane: &[u8]) -> Exact {
         .fold(start(plane), |exact, stage| after(stage, w, h, exact))
 }
 
+impl Exact {
+    /// The sum with another of the same denominator, place by place.
+    pub fn plus(self, other: Exact) -> Exact {
+        assert!(self.denominator == other.denominator);
+        let pairs = self.numerators.into_iter().zip(other.numerators);
+        Exact {
+            numerators: pairs.map(|(x, y)| x.plus(y)).collect(),
+            denominator: self.denominator,
+        }
+    }
+
+    /// Each place divided by n.
+    pub fn over(self, n: i64) -> Exact {
+        Exact {
+            denominator: self.denominator.times(n),
+            ..self
+        }
+    }
+}
+
 /// 65,536 |N y - x| <= T N.
 pub fn within(tolerance: u64, exact: &Exact, place: usize, y: u8) -> bool {
     let n = exact.denominator;

@@ -1,6 +1,7 @@
-//! Document 01 read once more, plainly: whole numbers, no lent memory, no speed. It shares no code with the library.
+//! Documents 01 and 02 read once more, plainly: whole numbers, no lent memory, no speed. It shares no code with the library.
 #![allow(dead_code)]
 
+pub mod background;
 pub mod exact;
 pub mod wide;
 

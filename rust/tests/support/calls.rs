@@ -3,16 +3,16 @@ use super::{hex, Guarded, Rng};
 use crate::reference::{self, Lengths};
 use hejslopi::raw;
 
-fn result<const N: usize>(rng: &mut Rng) -> Guarded<u64> {
+pub(super) fn result<const N: usize>(rng: &mut Rng) -> Guarded<u64> {
     Guarded::new(N, || rng.next())
 }
 
-fn array<const N: usize>(guarded: &mut Guarded<u64>) -> &mut [u64; N] {
+pub(super) fn array<const N: usize>(guarded: &mut Guarded<u64>) -> &mut [u64; N] {
     guarded.lend().try_into().expect("N numbers were made")
 }
 
 /// What was returned and what stands in the array, held to an answer.
-fn told(
+pub(super) fn told(
     number: u32,
     result: &Guarded<u64>,
     expected: &Result<Vec<u64>, u32>,
@@ -30,7 +30,7 @@ fn told(
     }
 }
 
-fn all(checks: &[(bool, &str)]) -> Result<(), String> {
+pub(super) fn all(checks: &[(bool, &str)]) -> Result<(), String> {
     match checks.iter().find(|check| !check.0) {
         Some((_, what)) => Err(format!("altered: {what}")),
         None => Ok(()),

@@ -1,6 +1,7 @@
 //! Random inputs, guarded buffers, and calls of the library as C makes them.
 #![allow(dead_code)]
 
+pub mod background;
 pub mod calls;
 pub mod inputs;
 
@@ -62,6 +63,14 @@ impl<T: Clone + PartialEq + Debug> Guarded<T> {
             before: all.clone(),
             all,
         }
+    }
+
+    /// With these elements to lend.
+    pub fn around(held: &[T], value: impl FnMut() -> T) -> Guarded<T> {
+        let mut guarded = Guarded::new(held.len(), value);
+        guarded.lend().clone_from_slice(held);
+        guarded.before = guarded.all.clone();
+        guarded
     }
 
     pub fn lend(&mut self) -> &mut [T] {

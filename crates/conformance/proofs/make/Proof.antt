@@ -20,6 +20,9 @@ show-bytes-requires c κs = search needs
 give-back-requires : tie.Need-give-back-requires
 give-back-requires c κs = search needs
 
+keep-requires : tie.Need-keep-requires
+keep-requires c κs = search needs
+
 asked-requires : tie.Need-asked-requires
 asked-requires c κs = search needs
 
@@ -35,6 +38,9 @@ returns-2 c = search needs
 returns-3 : tie.Need-returns-3
 returns-3 c = search needs
 
+returns-4 : tie.Need-returns-4
+returns-4 c = search needs
+
 pub make-spec : {M : Type 1} → statement M
 make-spec =
     tie.close
@@ -44,8 +50,10 @@ make-spec =
     letter-requires
     show-bytes-requires
     give-back-requires
+    keep-requires
     asked-requires
     filter-requires
     returns
     returns-2
-    returns-3)
+    returns-3
+    returns-4)

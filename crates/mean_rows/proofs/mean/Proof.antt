@@ -3,7 +3,7 @@ use Prim.Native.Nat.{ℕ, _+_, _*_, _-_, _/_, _^_, _≤_, _<_}
 use native.Mathlib.Nat.{mul-le-mul, div-le-self, div-lt-iff-lt-mul}
 use native.Mathlib.Omega.{arith}
 use mathlib.Core.Path.{_≡_}
-use Rattle.mean_rows.proofs.Quotient.{by-reciprocal}
+use Rattle.integers.proofs.Reciprocal.{by-reciprocal}
 use borrow.Author.Needs.{needs}
 use Rattle.mean_rows.proofs.mean.Statement.{statement}
 use Rattle.mean_rows.proofs.mean.Tie as tie
@@ -20,7 +20,7 @@ module _ {area sum by : ℕ} (k : Known area sum by) where
   exact : (2 * sum + area) * by / 2 ^ 32 ≡ (2 * sum + area) / (2 * area)
   exact =
       let few : (2 * sum + area) * (2 * area - 1) ≤ 491071 * 1921 = mul-le-mul {n₂ = 491071} {m₂ = 1921} (omega arith) (omega arith) in
-      rw (k .3) (by-reciprocal (2 * area) (2 * sum + area) (omega arith) (omega arith))
+      rw (k .3) (by-reciprocal (2 ^ 32) (2 * area) (2 * sum + area) (omega arith) (omega arith))
 
   a-byte : (2 * sum + area) / (2 * area) < 256
   a-byte = div-lt-iff-lt-mul {k = 2 * area} {x = 2 * sum + area} {y = 256} (omega arith) .1 (omega arith)

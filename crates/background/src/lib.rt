@@ -1,0 +1,1 @@
+// The background of document 02 as definitions: no code.

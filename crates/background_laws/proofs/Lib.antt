@@ -1,0 +1,4 @@
+pub mod Order
+pub mod Survivors
+pub mod Runs
+pub mod Honest

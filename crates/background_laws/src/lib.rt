@@ -1,0 +1,1 @@
+// What is proved of the background's definitions: no code.

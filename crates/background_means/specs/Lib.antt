@@ -1,0 +1,2 @@
+-- Sums and means over slots, definitions only.
+pub mod Sums

@@ -1,0 +1,2 @@
+-- The slots of lent memory in which a background's stills lie, definitions only.
+pub mod Slot
