@@ -157,9 +157,11 @@ uint32_t hejslopi_filter_file(const uint8_t *recipe, size_t recipe_len,
  * - held: how many stills there are, and their width, height and channels. All 0 at first.
  * - rasters: the rasters of the stills held, one behind the other.
  * - labels: for each of them, in the same order, its number and its T.
- * A call that is done leaves all three as the next one wants them. What is in rasters and labels behind the stills held is never
- * looked at, and stays as it is. Both may lie elsewhere at the next call and be longer or shorter, if what was there comes along.
- * A number above 65,535 in `held`, which no call leaves there, is answered with 20 unless no stills are held. */
+ * A call that is done leaves all three as the next one wants them. What lies in rasters and labels behind the stills held is never
+ * looked at; behind those held after a call it is as it was before. Both buffers may lie elsewhere at the next call and be longer
+ * or shorter, if the stills held come along.
+ * An addition puts no number above 8,192 into `held`, but any numbers that a caller puts there are answered: if stills are held and
+ * one of the four numbers is above 65,535, there is no room for the stills held (20), however much is lent. */
 
 /* Add a still, a whole P5 or P6 file, with its number and its T (its tolerance in 65,536ths of a grey level).
  * The first still decides the size, also once all have been removed.

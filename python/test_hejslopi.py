@@ -292,6 +292,26 @@ class Backgrounds(unittest.TestCase):
         self.assertEqual(background.mean(), (b"abcdef", 32768))
         self.assertEqual(self.answer(background.add, grey(1, 2, 3, 4, 5, 6), 2, 0), 24)
 
+    def test_size(self):
+        """That of the stills held, whatever is refused; none at first, and none again once they are gone."""
+        background = hejslopi.Background()
+        self.assertIsNone(background.size)
+        self.assertEqual(self.answer(background.add, b"P5\n2 1\n255\na", 1, 0), 5)
+        self.assertIsNone(background.size)
+        for still, size in ((b"P5\n3 2\n255\nabcdef", (3, 2, 1)), (b"P6\n1 2\n255\nabcdef", (1, 2, 3))):
+            for number in (1, 2):
+                background.add(still, number, 0)
+                for other, again, refusal in ((still, 1, 23), (grey(1, 2, 3, 4, 5, 6), 3, 24)):
+                    self.assertEqual(self.answer(background.add, other, again, 0), refusal)
+                self.assertEqual(background.size, size)
+                self.assertEqual(hejslopi.write_still(*background.size, background.mean().raster), still)
+            background.remove(1)
+            self.assertEqual(background.size, size)
+            background.remove(2)
+            self.assertIsNone(background.size)
+        with self.assertRaises(AttributeError):
+            background.size = (1, 1, 1)
+
     def test_wrong_arguments(self):
         """Said in one line, and the background is as it was."""
         background = hejslopi.Background()
@@ -332,13 +352,15 @@ class Backgrounds(unittest.TestCase):
         exec("\n".join(line[4:] for line in text.splitlines() if line.startswith("    ")), names)
         samples, tolerance = re.search(r"# samples ([\d ]+), and (\d+)", text).groups()
         self.assertEqual((names["raster"], names["T"]), (bytes(map(int, samples.split())), int(tolerance)))
+        self.assertEqual(str(names["background"].size), re.search(r"channels: (\(.*\))", text).group(1))
         self.assertEqual(len(names["background"]), int(re.search(r"is (\d+) now", text).group(1)))
 
     def test_no_memory(self):
-        """Where memory ends, the background is as it was: with a quarter of what is there at least filled, and its mean still to be had."""
+        """Where memory ends, the background is as it was: with a quarter of what is there at least filled, and its size and mean still to be had."""
         code = ("import hejslopi\nbackground, still = hejslopi.Background(), b'P5\\n8192 1024\\n255\\n' + bytes([7]) * (1 << 23)\n"
                 "try:\n    while True: background.add(still, len(background), len(background))\nexcept MemoryError: pass\n"
-                "assert background.mean() == (bytes([7]) * (1 << 23), len(background) - 1 + 32768)\nassert len(background) >= 16, len(background)\n")
+                "assert background.mean() == (bytes([7]) * (1 << 23), len(background) - 1 + 32768)\nassert len(background) >= 16, len(background)\n"
+                "assert background.size == (8192, 1024, 1), background.size\n")
         limit = lambda: resource.setrlimit(resource.RLIMIT_AS, (1 << 29, 1 << 29))
         here = os.path.dirname(os.path.abspath(__file__))
         done = subprocess.run([sys.executable, "-c", code], cwd=here, preexec_fn=limit, stderr=subprocess.PIPE, universal_newlines=True)

@@ -1,4 +1,4 @@
-"""The built program on files: every vector, and every state that its three files may be in.
+"""The built program on files: every vector that is no script of a background, and every state that its three files may be in.
 
 What it has to answer comes from the vectors and from the rules in docs/METHOD.md ('The program', 'Who causes which refusal'), never from the program.
 """

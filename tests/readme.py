@@ -162,16 +162,16 @@ def from_python(tally, room):
 
 
 def from_viewer(tally, room):
-    """The lines of a viewer that keeps a background, behind those that make their recipe: what they print, and the remark about the mean."""
+    """The lines of a viewer that keeps a background, behind those that make their recipe: what they print, the remark about the mean, and the still that is shown."""
     text = section("From Python")
     lines = printed(text, "background = ")
     _, number = command_of(lines, "    print(")
     _, mean = command_of(lines, "raster, T = background.mean()")
     samples, tolerance = (found(pattern, mean, "mean of a background") for pattern in (r"^((?:[0-9A-F]{2} ?)+),", r"and (\d+);"))
-    body = printed(text, "import hejslopi") + lines + ["print(raster.hex(' ').upper(), T)"]
+    body = printed(text, "import hejslopi") + lines + ["print(raster.hex(' ').upper(), T)", "print(shown[:-3], shown[-3:] == raster)"]
     written(os.path.join(room, "viewer.py"), "\n".join(body).encode())
     answer = says("%s viewer.py" % shlex.quote(sys.executable), room, PYTHONPATH="python")
-    tally.equal("the viewer in Python", answer, (0, "%s\n%s %s\n" % (number, samples, tolerance)))
+    tally.equal("the viewer in Python", answer, (0, "%s\n%s %s\n%r True\n" % (number, samples, tolerance, program.STILL[:-3])))
 
 
 def described(room):

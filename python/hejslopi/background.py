@@ -2,7 +2,7 @@
 from __future__ import annotations
 
 import ctypes
-from typing import Any, NamedTuple, Optional
+from typing import Any, NamedTuple, Optional, Tuple
 
 from . import faults
 from .calls import BytesLike, read_still, results, room, taken, word
@@ -26,10 +26,12 @@ class Background:
         background.add(b"P5\\n2 1\\n255\\n\\x0a\\xfa", 7, 100)
         background.add(b"P5\\n2 1\\n255\\n\\x0b\\xff", 8, 300)
         raster, T = background.mean()       # samples 11 253, and 33068
+        background.size                     # width, height, channels: (2, 1, 1)
         background.remove(7)                # len(background) is 1 now
 
-    What is refused raises `Refusal` and leaves the background as it was. Memory grows with the stills, and is given back with the last one.
-    One background may not be used by two threads at once.
+    Numbers and T are from 0 to 4,294,967,295. Others raise `ValueError`, and what is no whole number raises `TypeError`: neither is a refusal.
+    What is refused raises `Refusal`. Memory grows with the stills, and is given back with the last one; where the machine has none left, `MemoryError` is raised.
+    After any of these the background is as it was. It may not be used by two threads at once.
     """
 
     def __init__(self) -> None:
@@ -43,8 +45,15 @@ class Background:
         """How many stills are held."""
         return int(self._held[0])
 
+    @property
+    def size(self) -> Optional[Tuple[int, int, int]]:
+        """Width, height and channels, which all stills held have in common. None where there are none."""
+        stills, width, height, channels = self._held
+        return (width, height, channels) if stills else None
+
     def add(self, still: BytesLike, number: int, tolerance: int) -> None:
-        """Adds a still, as a file's bytes, with a number that no other one has, and its T. Beside none, it may have any size."""
+        """Adds a still, as a file's bytes, with a number that no other one has, and its T: both from 0 to 4,294,967,295. The first still may have any size,
+        the others must have the same. Raises `MemoryError` where the machine has no memory for one more. (In Rust, that is refusal 20.)"""
         still, number, tolerance = taken("still", still), word("number", number), word("tolerance", tolerance)
         refusal = self._added(still, number, tolerance)
         if refusal == ROOM:
@@ -55,7 +64,7 @@ class Background:
             raise Refusal(refusal, self._fault(refusal, number, still))
 
     def remove(self, number: int) -> None:
-        """Removes the still of a number."""
+        """Removes the still of a number, from 0 to 4,294,967,295."""
         number = word("number", number)
         refusal = call("hejslopi_background_remove", ctypes.c_uint32(number), self._rasters, self._labels, self._held)
         if refusal:
@@ -65,7 +74,10 @@ class Background:
             self._forget()
 
     def mean(self) -> Optional[Mean]:
-        """The mean of the stills held, sample by sample, halves up, and its T. None where there are none."""
+        """The mean of the stills held, sample by sample, halves up, and its T. None where there are none.
+
+        It is a raster: `write_still(*background.size, raster)` makes a still of it.
+        """
         out, result = room(self._samples()), results(3)
         refusal = call("hejslopi_background_mean", self._rasters, self._labels, ctypes.byref(self._held), out, result)
         if refusal:
@@ -91,7 +103,7 @@ class Background:
             self._make_room(more, width * height * channels)
 
     def _make_room(self, stills: int, samples: int) -> None:
-        """Memory for so many stills, and in it those held. Nothing changes where there is none."""
+        """Memory for so many stills, and in it those held. Where there is no memory for them, nothing changes."""
         self._rasters, self._labels = copied(self._rasters, room(stills * samples)), copied(self._labels, labels(2 * stills))
 
     def _fault(self, refusal: int, number: int, still: bytes = b"") -> str:

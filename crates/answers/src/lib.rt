@@ -41,7 +41,7 @@ pub enum File {
     },
 }
 
-// What a background holds: how many stills, and the size of each. Behind an empty one no size is looked at.
+// What a background holds: how many stills, and the size of each. Of an empty one no size is looked at.
 pub struct Held {
     pub count: usize,
     pub width: usize,

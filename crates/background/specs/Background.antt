@@ -11,6 +11,7 @@ pub record Member : Type 0 where
   pub tolerance : ℕ
   pub raster : List ℕ
 
+-- with these
 abbrev pub member : ℕ → ℕ → List ℕ → Member
 member n T s = record { number = n; tolerance = T; raster = s }
 

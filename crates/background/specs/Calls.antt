@@ -7,7 +7,7 @@ use Rattle.answers.specs.declared.Held.{Held}
 use Rattle.answers.specs.declared.Changed.{Changed}
 use Rattle.answers.specs.declared.Changed.the-variants.{Refused, Holds}
 use Rattle.background.specs.Background.{empty}
-use Rattle.background.specs.Room.{heldOf}
+use Rattle.background.specs.Room.{heldOf, rasterSize}
 use Rattle.background.specs.Change.{Outcome, addition, removal}
 use Rattle.background.specs.Memory.{backgroundIn, Changes}
 use Rattle.background.specs.History.{Operation, adds, removes, outcome}
@@ -26,19 +26,20 @@ nothing = record { held = heldOf empty; rasters = []; labels = [] }
 unfoldable pub Begins : List ℕ → List ℕ → Type 0
 Begins memory front = take (length front) memory ≡ take (length memory) front
 
--- what is kept behind a call: after a refusal what was kept before it
+-- what is kept after a call: after a refusal what was kept before it
 abbrev pub leftBy : Changed → List ℕ → List ℕ → Left → Left
 leftBy (Refused n) rasters labels l = l
-leftBy (Holds h) rasters labels l = record { held = h; rasters = take (h .count * (h .width * h .height * h .channels)) rasters; labels = take (2 * h .count) labels }
+leftBy (Holds h) rasters labels l = record { held = h; rasters = take (h .count * rasterSize h) rasters; labels = take (2 * h .count) labels }
 
--- how many bytes and labels an operation is lent
+-- how many bytes an operation is lent
 abbrev pub bytesLent : Operation → ℕ
-bytesLent (adds a) = a .rasters
-bytesLent (removes n rasters labels) = rasters
+bytesLent (adds a) = a .bytes
+bytesLent (removes n bytes words) = bytes
 
-abbrev pub labelsLent : Operation → ℕ
-labelsLent (adds a) = a .labels
-labelsLent (removes n rasters labels) = labels
+-- how many words
+abbrev pub wordsLent : Operation → ℕ
+wordsLent (adds a) = a .words
+wordsLent (removes n bytes words) = words
 
 -- one call: it is lent memory that begins with what was left, it ensures what its contract says, and leaves this
 pub record Call (l : Left) (o : Operation) (l′ : Left) : Type 0 where
@@ -48,7 +49,7 @@ pub record Call (l : Left) (o : Operation) (l′ : Left) : Type 0 where
   pub labels′ : List ℕ
   pub answer : Changed
   pub bytes-lent : length rasters ≡ bytesLent o
-  pub labels-lent : length labels ≡ labelsLent o
+  pub words-lent : length labels ≡ wordsLent o
   pub rasters-begin : Begins rasters (l .rasters)
   pub labels-begin : Begins labels (l .labels)
   pub ensured : Changes (outcome o (backgroundIn (l .held) rasters labels)) rasters rasters′ labels labels′ answer

@@ -6,32 +6,33 @@ use lib.Dec.{eqb}
 use Rattle.background.specs.Background.{Background, empty}
 use Rattle.background.specs.Change.{Outcome, refused, changed, addition, removal}
 
--- an addition: the still's file, its number and its T, and how many bytes and labels are lent
+-- an addition: the still's file, its number and its T, and how many bytes and words are lent
 pub record Addition : Type 0 where
   pub file : List ℕ
   pub number : ℕ
   pub tolerance : ℕ
-  pub rasters : ℕ
-  pub labels : ℕ
+  pub bytes : ℕ
+  pub words : ℕ
 
--- an operation: an addition, or the removal of a number with so many bytes and labels lent
+-- an operation: an addition, or the removal of a number with so many bytes and words lent
 pub data Operation : Type 0 where
   adds : Addition → Operation
   removes : ℕ → ℕ → ℕ → Operation
 
+-- what an operation comes to
 unfoldable pub outcome : Operation → Background → Outcome
-outcome (adds a) b = addition (a .file) (a .number) (a .tolerance) (a .rasters) (a .labels) b
-outcome (removes n rasters labels) b = removal n rasters labels b
+outcome (adds a) b = addition (a .file) (a .number) (a .tolerance) (a .bytes) (a .words) b
+outcome (removes n bytes words) b = removal n bytes words b
 
--- the background behind an outcome: a refusal leaves it as it was
-abbrev pub behind : Outcome → Background → Background
-behind (refused n) b = b
-behind (changed b′) b = b′
+-- the background after an outcome: a refusal leaves it as it was
+abbrev pub afterOutcome : Outcome → Background → Background
+afterOutcome (refused n) b = b
+afterOutcome (changed b′) b = b′
 
--- the background behind a list of operations
+-- the background after a list of operations
 unfoldable pub history : List Operation → Background → Background
 history [] b = b
-history (o ∷ os) b = history os (behind (outcome o b) b)
+history (o ∷ os) b = history os (afterOutcome (outcome o b) b)
 
 -- the additions without those of number n
 unfoldable pub except : ℕ → List Addition → List Addition
@@ -42,9 +43,9 @@ except n (a ∷ xs) = cond (eqb (a .number) n) (except n xs) (a ∷ except n xs)
 abbrev pub leftAfter : Operation → Outcome → List Addition → List Addition
 leftAfter o (refused r) xs = xs
 leftAfter (adds a) (changed b) xs = xs ++ (a ∷ [])
-leftAfter (removes n rasters labels) (changed b) xs = except n xs
+leftAfter (removes n bytes words) (changed b) xs = except n xs
 
 -- the additions that are left of a list of operations, in the order in which they came: those neither refused nor removed later
 unfoldable pub survivors : List Operation → Background → List Addition → List Addition
 survivors [] b xs = xs
-survivors (o ∷ os) b xs = survivors os (behind (outcome o b) b) (leftAfter o (outcome o b) xs)
+survivors (o ∷ os) b xs = survivors os (afterOutcome (outcome o b) b) (leftAfter o (outcome o b) xs)

@@ -1,9 +1,10 @@
 -- The mean of a background, and its tolerance.
-use Prim.Native.Nat.{ℕ, _+_, _*_, _/_, min}
+use Prim.Native.Nat.{ℕ, _+_, min}
 use mathlib.Core.Bool.{cond}
 use mathlib.Core.List.{List, [], _∷_, _++_, map}
 use lib.ListN.{length, getD, drop}
 use lib.Dec.{leb, eqb}
+use Rattle.integers.specs.Divide.{nearest}
 use Rattle.integers.specs.Sum.{sum}
 use Rattle.lists.specs.Tabulate.{tabulate}
 use Rattle.model.specs.Outline.{largest}
@@ -14,9 +15,9 @@ use Rattle.answers.specs.declared.Mean.the-variants.{Refused, NoStills, Of}
 use Rattle.background.specs.Background.{Member, Background, stills, samples}
 use Rattle.background.specs.Room.{heldOf, heldRoom}
 
--- the mean of a list of samples, rounded to the nearest, halves up: floor((2·sum + k) / (2·k)) for k of them
+-- the mean of a list of samples, rounded to the nearest, halves up
 unfoldable pub meanOf : List ℕ → ℕ
-meanOf xs = (2 * sum xs + length xs) / (2 * length xs)
+meanOf xs = nearest (sum xs) (length xs)
 
 -- the samples of all members at place j of their rasters
 unfoldable pub samplesAt : ℕ → List Member → List ℕ
@@ -26,17 +27,17 @@ samplesAt j ms = map (λ m. getD (m .raster) j 0) ms
 unfoldable pub meanRaster : Background → List ℕ
 meanRaster b = tabulate (λ j. meanOf (samplesAt j (b .members))) (samples b)
 
--- its T: the largest of the members' and half a level, at most 16,711,680, which is 255 levels
+-- its T: the members' largest plus half a level, at most 16,711,680, which is 255 levels
 unfoldable pub meanTolerance : List Member → ℕ
 meanTolerance ms = min (largest (map (λ m. m .tolerance) ms) + 32768) 16711680
 
 -- the tests of a mean: room for the stills held, and an output of one raster
 unfoldable pub meanTests : ℕ → ℕ → ℕ → Background → List Test
-meanTests rasters labels out b = (heldRoom (heldOf b) rasters labels, Refusal.room) ∷ (leb (samples b) out, Refusal.room) ∷ []
+meanTests bytes words out b = (heldRoom (heldOf b) bytes words, Refusal.room) ∷ (leb (samples b) out, Refusal.room) ∷ []
 
 -- the answer: that there are none, before any test; else of how many stills the mean is, its T, and how many bytes are written
 unfoldable pub meanAnswer : ℕ → ℕ → ℕ → Background → Mean
-meanAnswer rasters labels out b = cond (eqb (stills b) 0) NoStills (tested Refused (meanTests rasters labels out b) (Of (stills b) (meanTolerance (b .members)) (samples b)))
+meanAnswer bytes words out b = cond (eqb (stills b) 0) NoStills (tested Refused (meanTests bytes words out b) (Of (stills b) (meanTolerance (b .members)) (samples b)))
 
 -- the output after an answer: the mean still and the old tail, and in every other case as it was
 abbrev pub meanOutput : Mean → Background → List ℕ → List ℕ

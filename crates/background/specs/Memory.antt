@@ -9,13 +9,17 @@ use Rattle.answers.specs.declared.Changed.{Changed}
 use Rattle.answers.specs.declared.Changed.the-variants.{Refused, Holds}
 use Rattle.answers.specs.declared.Mean.{Mean}
 use Rattle.background.specs.Background.{Member, member, Background, stills, samples}
-use Rattle.background.specs.Room.{heldOf}
+use Rattle.background.specs.Room.{heldOf, rasterSize}
 use Rattle.background.specs.Change.{Outcome, refused, changed}
 use Rattle.background.specs.Mean.{meanAnswer, meanOutput}
 
--- member i in memory: its number and its T are labels 2·i and 2·i + 1, and its raster begins at byte i·size
+-- slot i of rasters of `size` bytes, which lie one behind the other
+unfoldable pub slot : ℕ → ℕ → List ℕ → List ℕ
+slot size i rasters = take size (drop (i * size) rasters)
+
+-- member i in memory: its number and its T are labels 2·i and 2·i + 1, and its raster is in slot i
 unfoldable pub memberIn : ℕ → List ℕ → List ℕ → ℕ → Member
-memberIn size rasters labels i = member (getD labels (2 * i) 0) (getD labels (2 * i + 1) 0) (take size (drop (i * size) rasters))
+memberIn size rasters labels i = member (getD labels (2 * i) 0) (getD labels (2 * i + 1) 0) (slot size i rasters)
 
 -- the background that memory holds, one member behind the other
 unfoldable pub backgroundIn : Held → List ℕ → List ℕ → Background
@@ -23,10 +27,10 @@ backgroundIn h rasters labels = record {
   width = h .width;
   height = h .height;
   channels = h .channels;
-  members = tabulate (memberIn (h .width * h .height * h .channels) rasters labels) (h .count);
+  members = tabulate (memberIn (rasterSize h) rasters labels) (h .count);
 }
 
--- memory after a change to background b: it holds b, and behind b it is as it was
+-- memory after a change that ends in background b: it holds b, and all behind b is as it was
 pub record Lies (b : Background) (rasters rasters′ labels labels′ : List ℕ) : Type 0 where
   pub held : backgroundIn (heldOf b) rasters′ labels′ ≡ b
   pub rasters-behind : drop (stills b * samples b) rasters′ ≡ drop (stills b * samples b) rasters

@@ -17,8 +17,8 @@ use Rattle.answers.specs.declared.Changed.the-variants as Changed
 use Rattle.background.specs.Background.{Member, member, Background, stills, samples, numbers, position}
 use Rattle.background.specs.Room.{heldOf}
 use Rattle.background.specs.Change.{refused, changed, removeTests, without, removal}
-use Rattle.background.specs.Memory.{memberIn, backgroundIn, Lies, Changes}
-use Rattle.background_slots.specs.Slot.{slot, withRaster, withLabels}
+use Rattle.background.specs.Memory.{slot, memberIn, backgroundIn, Lies, Changes}
+use Rattle.background_slots.specs.Slot.{withRaster, withLabels}
 use Rattle.background_slots.proofs.Holding.{numbers-in}
 use Rattle.background_slots.proofs.HeldRoom.{Lent, held-lent}
 use Rattle.background_changes.specs.declared.Found.{Found}

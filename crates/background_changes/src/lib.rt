@@ -9,8 +9,8 @@ ghost use lib.ListN.{length, getD};
 ghost use Rattle.refusals.specs.Refusal.{tested, verdict};
 ghost use Rattle.background.specs.Background.{member, numbers, position};
 ghost use Rattle.background.specs.Change.{refused, changed, suits, addTests, joined, addition, removeTests, removal};
-ghost use Rattle.background.specs.Memory.{backgroundIn, Changes};
-ghost use Rattle.background_slots.specs.Slot.{slot, withRaster, withLabels};
+ghost use Rattle.background.specs.Memory.{slot, backgroundIn, Changes};
+ghost use Rattle.background_slots.specs.Slot.{withRaster, withLabels};
 ghost use Rattle.background_changes.specs.declared.Found.the-variants as Found;
 
 // The size of a still to be added.
@@ -155,6 +155,7 @@ enum Found {
     Slot(usize),
 }
 
+// The tests of a removal, and the slot of its still.
 fn remove_tests(held: Held, number: u32, rasters: &[u8], labels: &[u32]) -> Found
     ensures { λ r. ⌜ r ≡ tested Found.Refused (removeTests number (length (now (rasters .entry))) (length (now (labels .entry))) (backgroundIn held (now (rasters .entry)) (now (labels .entry)))) (Found.Slot (position number (numbers (backgroundIn held (now (rasters .entry)) (now (labels .entry)))))) ⌝ }
 {

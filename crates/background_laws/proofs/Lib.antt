@@ -1,4 +1,6 @@
 pub mod Order
 pub mod Survivors
 pub mod Runs
+pub mod Limits
 pub mod Honest
+pub mod Determined

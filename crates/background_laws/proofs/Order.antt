@@ -33,6 +33,15 @@ same-sym s = record { sums = λ f. sym (s .sums f) }
 pub same-trans : {xs ys zs : List Member} → Same xs ys → Same ys zs → Same xs zs
 same-trans s t = record { sums = λ f. s .sums f ∙ t .sums f }
 
+-- with transitivity these two give every order
+pub same-cons : (x : Member) {xs ys : List Member} → Same xs ys → Same (x ∷ xs) (x ∷ ys)
+unfolding sum
+same-cons x s = record { sums = λ f. omega (arith, s .sums f) }
+
+pub same-swap : (x y : Member) (xs : List Member) → Same (x ∷ y ∷ xs) (y ∷ x ∷ xs)
+unfolding sum
+same-swap x y xs = record { sums = λ f. omega arith }
+
 sum-append : (xs ys : List ℕ) → sum (xs ++ ys) ≡ sum xs + sum ys
 unfolding sum
 sum-append [] ys = omega arith

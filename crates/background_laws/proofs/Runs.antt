@@ -1,4 +1,4 @@
--- WHAT CALLS KEEP IN LENT MEMORY IS WHAT THE DEFINITIONS SAY, whatever length is lent to each; so a mean behind them is that of the stills left. Assumes nothing.
+-- WHAT CALLS KEEP IN LENT MEMORY IS WHAT THE DEFINITIONS SAY, whatever length is lent to each; so a mean after them is that of the stills left. Assumes nothing.
 use Prim.Native.Nat.{ℕ, zero, suc, _+_, _-_, _*_, _≤_, _<_}
 use native.Mathlib.Nat.{mul-le-mul-right}
 use native.Mathlib.Omega.{arith}
@@ -25,9 +25,9 @@ use Rattle.background.specs.Background.{member, Background, empty, stills, samp
 use Rattle.background.specs.Room.{roomFor, heldOf, smallNumbers, heldRoom}
 use Rattle.background.specs.Change.{Outcome, refused, changed, addTests, joined, additionOf, addition, removeTests, without, removal}
 use Rattle.background.specs.Mean.{meanTests, meanAnswer, meanOutput}
-use Rattle.background.specs.Memory.{memberIn, backgroundIn, Lies, answerOf, Changes, Means}
-use Rattle.background.specs.History.{Operation, adds, removes, outcome, behind, history, survivors}
-use Rattle.background.specs.Calls.{Left, nothing, Begins, leftBy, bytesLent, labelsLent, Call, Calls, none, more}
+use Rattle.background.specs.Memory.{slot, memberIn, backgroundIn, Lies, answerOf, Changes, Means}
+use Rattle.background.specs.History.{Operation, adds, removes, outcome, afterOutcome, history, survivors}
+use Rattle.background.specs.Calls.{Left, nothing, Begins, leftBy, bytesLent, wordsLent, Call, Calls, none, more}
 use Rattle.background_laws.proofs.Survivors.{never, AsIf, as-if-never}
 
 -- ---- what memory holds lies in its front
@@ -41,7 +41,7 @@ part-front (suc i) n (suc k) (x ∷ xs) h = part-front i n k xs (omega (arith, h
 -- a member looks at no byte and no label behind those of all members
 member-front : (size count i : ℕ) (rasters labels : List ℕ) → i < count
     → memberIn size (take (count * size) rasters) (take (2 * count) labels) i ≡ memberIn size rasters labels i
-unfolding memberIn
+unfolding memberIn slot
 member-front size count i rasters labels h =
     rw (
       getD-take (2 * count) labels (2 * i) 0 (omega arith),
@@ -109,20 +109,20 @@ module _ (h : Held) (rasters labels : ℕ) where
       go false e = refl
 
 -- a change leaves no more stills than were tested for: an addition is tested for just as many, a removal for one more
-changed-fits : (o : Operation) (b b′ : Background) → outcome o b ≡ changed b′ → Fits (stills b′) (samples b′) (bytesLent o) (labelsLent o)
+changed-fits : (o : Operation) (b b′ : Background) → outcome o b ≡ changed b′ → Fits (stills b′) (samples b′) (bytesLent o) (wordsLent o)
 unfolding outcome addition addTests removal removeTests without
 changed-fits (adds a) b b′ e = go (stillOf (a .file)) e
   where
-    go : (s : Still) → additionOf s (a .file) (a .number) (a .tolerance) (a .rasters) (a .labels) b ≡ changed b′
-        → Fits (stills b′) (samples b′) (a .rasters) (a .labels)
+    go : (s : Still) → additionOf s (a .file) (a .number) (a .tolerance) (a .bytes) (a .words) b ≡ changed b′
+        → Fits (stills b′) (samples b′) (a .bytes) (a .words)
     go (Still.Refused r) f = absurd (never r f)
     go (Still.Picture W H c start) f =
         let m = member (a .number) (a .tolerance) (drop start (a .file)) in
-        let p = passed refused (addTests (a .number) W H c (a .rasters) (a .labels) b) _ (changed b′) never f in
+        let p = passed refused (addTests (a .number) W H c (a .bytes) (a .words) b) _ (changed b′) never f in
         let is : joined W H c m b ≡ b′ = cc in
         let count : length (b .members ++ (m ∷ [])) ≡ suc (stills b) = rw (length-append (b .members) (m ∷ [])) (omega arith) in
-        let fits = room-fits (suc (stills b)) (W * H * c) (a .rasters) (a .labels) (p .0 .1 .1 .1 .1 .0) in
-        subst (λ (z : Background). Fits (stills z) (samples z) (a .rasters) (a .labels)) is (rw count fits)
+        let fits = room-fits (suc (stills b)) (W * H * c) (a .bytes) (a .words) (p .0 .1 .1 .1 .1 .0) in
+        subst (λ (z : Background). Fits (stills z) (samples z) (a .bytes) (a .words)) is (rw count fits)
 changed-fits (removes n rasters labels) b b′ e =
     let p = passed refused (removeTests n rasters labels b) _ (changed b′) never e in
     let is : record { width = b .width; height = b .height; channels = b .channels; members = without (position n (numbers b)) (b .members) } ≡ b′ = cc in
@@ -164,26 +164,26 @@ module _ {l : Left} {b : Background} (k : Keeps l b) (rasters labels : List ℕ)
 -- ---- one call
 
 -- without room for the stills held, an operation is refused by the still's own test or by this one, and neither looks at a member
-short-outcome : (o : Operation) (b found : Background) → heldOf found ≡ heldOf b → heldRoom (heldOf b) (bytesLent o) (labelsLent o) ≡ false
+short-outcome : (o : Operation) (b found : Background) → heldOf found ≡ heldOf b → heldRoom (heldOf b) (bytesLent o) (wordsLent o) ≡ false
     → outcome o found ≡ outcome o b
 unfolding outcome addition addTests removal removeTests
 short-outcome (adds a) b found e f = go (stillOf (a .file))
   where
-    go : (s : Still) → let on = additionOf s (a .file) (a .number) (a .tolerance) (a .rasters) (a .labels) in on found ≡ on b
+    go : (s : Still) → let on = additionOf s (a .file) (a .number) (a .tolerance) (a .bytes) (a .words) in on found ≡ on b
     go (Still.Refused r) = refl
     go (Still.Picture W H c start) = rw (e, f)
 short-outcome (removes n rasters labels) b found e f = rw (e, f)
 
-found-outcome : (o : Operation) (b found : Background) → Found b found (bytesLent o) (labelsLent o) → outcome o found ≡ outcome o b
+found-outcome : (o : Operation) (b found : Background) → Found b found (bytesLent o) (wordsLent o) → outcome o found ≡ outcome o b
 found-outcome o b found (whole e) = ap (outcome o) e
 found-outcome o b found (short e f) = short-outcome o b found e f
 
--- so a call ensures what its contract says of the background kept
-call-ensures : {l l′ : Left} {o : Operation} {b : Background} → Keeps l b → (c : Call l o l′)
+-- EACH CALL'S OWN ANSWER is the definition's: what its contract says of the background kept, which after calls is that of the history
+pub call-ensures : {l l′ : Left} {o : Operation} {b : Background} → Keeps l b → (c : Call l o l′)
     → Changes (outcome o b) (c .rasters) (c .rasters′) (c .labels) (c .labels′) (c .answer)
 call-ensures {l} {l′} {o} {b} k c =
     let found = found-in k (c .rasters) (c .labels) (c .rasters-begin) (c .labels-begin) in
-    rw (found-outcome o b (backgroundIn (l .held) (c .rasters) (c .labels)) (rw (c .bytes-lent, c .labels-lent) at found)) at (c .ensured)
+    rw (found-outcome o b (backgroundIn (l .held) (c .rasters) (c .labels)) (rw (c .bytes-lent, c .words-lent) at found)) at (c .ensured)
 
 -- the front of memory keeps the background that was changed to
 module _ {rasters rasters′ labels labels′ : List ℕ} (l : Left) where
@@ -196,14 +196,14 @@ module _ {rasters rasters′ labels labels′ : List ℕ} (l : Left) where
     two-each = length-take-le (2 * stills b) labels′ (omega (arith, f .two-each, y .labels-length));
   }
 
-  keeps-behind : {b : Background} {answer : Changed} → Keeps l b → (r : Outcome) → Changes r rasters rasters′ labels labels′ answer
-      → ((b′ : Background) → r ≡ changed b′ → Fits (stills b′) (samples b′) (length rasters) (length labels)) → Keeps (leftBy answer rasters′ labels′ l) (behind r b)
-  keeps-behind k (refused n) y f = rw (y .answered) k
-  keeps-behind k (changed b′) y f = rw (y .answered) (keeps-changed (y .left) (f b′ refl))
+  keeps-after : {b : Background} {answer : Changed} → Keeps l b → (r : Outcome) → Changes r rasters rasters′ labels labels′ answer
+      → ((b′ : Background) → r ≡ changed b′ → Fits (stills b′) (samples b′) (length rasters) (length labels)) → Keeps (leftBy answer rasters′ labels′ l) (afterOutcome r b)
+  keeps-after k (refused n) y f = rw (y .answered) k
+  keeps-after k (changed b′) y f = rw (y .answered) (keeps-changed (y .left) (f b′ refl))
 
-call-keeps : {l l′ : Left} {o : Operation} {b : Background} → Keeps l b → Call l o l′ → Keeps l′ (behind (outcome o b) b)
+call-keeps : {l l′ : Left} {o : Operation} {b : Background} → Keeps l b → Call l o l′ → Keeps l′ (afterOutcome (outcome o b) b)
 call-keeps {l} {l′} {o} {b} k c =
-    rw (c .leaves) (keeps-behind l k (outcome o b) (call-ensures k c) (λ b′ e. rw (c .bytes-lent, c .labels-lent) (changed-fits o b b′ e)))
+    rw (c .leaves) (keeps-after l k (outcome o b) (call-ensures k c) (λ b′ e. rw (c .bytes-lent, c .words-lent) (changed-fits o b b′ e)))
 
 -- ---- any number of calls
 
@@ -216,11 +216,11 @@ unfolding history
 calls-keep k none = k
 calls-keep k (more c cs) = calls-keep (call-keeps k c) cs
 
--- WHAT IS KEPT BEHIND ANY LIST OF CALLS is the background behind the list
+-- WHAT IS KEPT AFTER ANY LIST OF CALLS is the background of the history
 pub calls-are-history : (os : List Operation) (l : Left) → Calls nothing os l → Keeps l (history os empty)
 calls-are-history os l cs = calls-keep keeps-nothing cs
 
--- ---- a mean behind them
+-- ---- a mean after them
 
 short-answer : (b : Background) (rasters labels out : ℕ) → heldRoom (heldOf b) rasters labels ≡ false → meanAnswer rasters labels out b ≡ Refused Refusal.room
 unfolding meanAnswer meanTests
@@ -247,7 +247,7 @@ as-if-mean {rasters} {labels} {out} {out′} {answer} b b′ s m =
       output = m .output ∙ ap (λ (a : Mean). meanOutput a b out) (m .answered) ∙ s .output (length rasters) (length labels) out ∙ ap (λ (a : Mean). meanOutput a b′ out) (sym is);
     }
 
--- a mean's answer and output are those of the background behind the list, and those of the stills left, as if those refused and those removed had never come
+-- a mean's answer and output are those of the history, and those of the stills left, as if those refused and those removed had never come
 pub record KeptMean (os : List Operation) (rasters labels out out′ : List ℕ) (answer : Mean) : Type 0 where
   pub as-defined : Means (history os empty) rasters labels out out′ answer
   pub as-if : Means (history (map adds (survivors os empty [])) empty) rasters labels out out′ answer

@@ -21,7 +21,7 @@ use Rattle.background.specs.Background.{Member, member, Background, empty, stil
 use Rattle.background.specs.Room.{roomFor, heldOf, smallNumbers, heldRoom}
 use Rattle.background.specs.Change.{Outcome, refused, changed, suits, addTests, joined, additionOf, addition, removeTests, without, removal}
 use Rattle.background.specs.Mean.{meanTests, meanAnswer, meanOutput}
-use Rattle.background.specs.History.{Addition, Operation, adds, removes, outcome, behind, history, except, leftAfter, survivors}
+use Rattle.background.specs.History.{Addition, Operation, adds, removes, outcome, afterOutcome, history, except, leftAfter, survivors}
 use Rattle.background_laws.proofs.Order.{Same, same-refl, same-append, same-length, same-raster, same-tolerance, sum-both, without-sum}
 
 -- ---- the members of number n
@@ -104,7 +104,7 @@ record Follows (W H c k : ℕ) (a : Addition) : Type 0 where
   start : ℕ
   read : stillOf (a .file) ≡ Still.Picture W H c start
   few : k < 1000
-  room : roomFor (suc k) (W * H * c) (a .rasters) (a .labels) ≡ true
+  room : roomFor (suc k) (W * H * c) (a .bytes) (a .words) ≡ true
 
 -- additions that can follow each other, the first of them k others
 data Chain (W H c : ℕ) : ℕ → List Addition → Type 0 where
@@ -126,7 +126,7 @@ module _ {W H c : ℕ} where
     start = f .start;
     read = f .read;
     few = omega (arith, f .few);
-    room = room-fewer (suc k) (suc (suc k)) (W * H * c) (a .rasters) (a .labels) (omega arith) (f .room);
+    room = room-fewer (suc k) (suc (suc k)) (W * H * c) (a .bytes) (a .words) (omega arith) (f .room);
   }
 
   chain-fewer : {k : ℕ} {xs : List Addition} → Chain W H c (suc k) xs → Chain W H c k xs
@@ -148,16 +148,16 @@ module _ {W H c : ℕ} where
 
 -- ---- what a history keeps: the additions left give the members, each could follow those before it, and no number stands twice
 
-record Kept (b : Background) (xs : List Addition) : Type 0 where
+record Accounts (b : Background) (xs : List Addition) : Type 0 where
   same : Same (b .members) (given xs)
   distinct : Distinct (b .members)
   chain : Chain (b .width) (b .height) (b .channels) 0 xs
 
-kept-none : Kept empty []
+kept-none : Accounts empty []
 unfolding Distinct named sum
 kept-none = record { same = same-refl []; distinct = λ n. omega arith; chain = end }
 
-kept-count : {b : Background} {xs : List Addition} → Kept b xs → stills b ≡ length xs
+kept-count : {b : Background} {xs : List Addition} → Accounts b xs → stills b ≡ length xs
 kept-count {b} {xs} k = same-length (k .same) ∙ length-map xs memberOf
 
 -- a still that suits the members has the size of all additions left
@@ -196,9 +196,9 @@ unfolding Distinct named
 distinct-same s d n = omega (arith, d n, s .sums (only n (λ m. 1)))
 
 -- an addition that is accepted
-module _ (a : Addition) (b : Background) (xs : List Addition) (k : Kept b xs) where
-  joined-kept : (W H c start : ℕ) → stillOf (a .file) ≡ Still.Picture W H c start → AllPass (addTests (a .number) W H c (a .rasters) (a .labels) b)
-      → Kept (joined W H c (member (a .number) (a .tolerance) (drop start (a .file))) b) (xs ++ (a ∷ []))
+module _ (a : Addition) (b : Background) (xs : List Addition) (k : Accounts b xs) where
+  joined-kept : (W H c start : ℕ) → stillOf (a .file) ≡ Still.Picture W H c start → AllPass (addTests (a .number) W H c (a .bytes) (a .words) b)
+      → Accounts (joined W H c (member (a .number) (a .tolerance) (drop start (a .file))) b) (xs ++ (a ∷ []))
   unfolding addTests present rasterIn
   joined-kept W H c start e p =
       let n = a .number in
@@ -213,17 +213,17 @@ module _ (a : Addition) (b : Background) (xs : List Addition) (k : Kept b xs) wh
             (record { start = start; read = e; few = ltb-true (stills b) 1000 (p .1 .1 .1 .0); room = p .1 .1 .1 .1 .0 });
       }
 
-  added : (b′ : Background) → outcome (adds a) b ≡ changed b′ → Kept b′ (xs ++ (a ∷ []))
+  added : (b′ : Background) → outcome (adds a) b ≡ changed b′ → Accounts b′ (xs ++ (a ∷ []))
   unfolding outcome addition
   added b′ e = go (stillOf (a .file)) refl e
     where
-      go : (s : Still) → stillOf (a .file) ≡ s → additionOf s (a .file) (a .number) (a .tolerance) (a .rasters) (a .labels) b ≡ changed b′
-          → Kept b′ (xs ++ (a ∷ []))
+      go : (s : Still) → stillOf (a .file) ≡ s → additionOf s (a .file) (a .number) (a .tolerance) (a .bytes) (a .words) b ≡ changed b′
+          → Accounts b′ (xs ++ (a ∷ []))
       go (Still.Refused r) d f = absurd (never r f)
       go (Still.Picture W H c start) d f =
-          let p = passed refused (addTests (a .number) W H c (a .rasters) (a .labels) b) _ (changed b′) never f in
+          let p = passed refused (addTests (a .number) W H c (a .bytes) (a .words) b) _ (changed b′) never f in
           let is : joined W H c (member (a .number) (a .tolerance) (drop start (a .file))) b ≡ b′ = cc in
-          subst (λ (z : Background). Kept z (xs ++ (a ∷ []))) is (joined-kept W H c start d (p .0))
+          subst (λ (z : Background). Accounts z (xs ++ (a ∷ []))) is (joined-kept W H c start d (p .0))
 
 -- a sum over the additions, split: those that stay, and those of number n
 except-sum : (f : Member → ℕ) (n : ℕ) (xs : List Addition) → sum (map f (given (except n xs))) + sum (map (only n f) (given xs)) ≡ sum (map f (given xs))
@@ -237,7 +237,7 @@ except-sum f n (a ∷ xs) = go (eqb (a .number) n) (except-sum f n xs)
     go false e = omega (arith, e)
 
 -- a removal that is accepted
-module _ (n : ℕ) (b : Background) (xs : List Addition) (k : Kept b xs) (there : place n (b .members) < stills b) where
+module _ (n : ℕ) (b : Background) (xs : List Addition) (k : Accounts b xs) (there : place n (b .members) < stills b) where
   taken : Member
   taken = getD (b .members) (place n (b .members)) (member 0 0 [])
 
@@ -269,29 +269,29 @@ module _ (n : ℕ) (b : Background) (xs : List Addition) (k : Kept b xs) (there 
   unfolding Distinct named
   left-distinct j = omega (arith, left-sum (only j (λ m. 1)), k .distinct j)
 
-module _ (n rasters labels : ℕ) (b : Background) (xs : List Addition) (k : Kept b xs) where
-  removed : (b′ : Background) → outcome (removes n rasters labels) b ≡ changed b′ → Kept b′ (except n xs)
+module _ (n rasters labels : ℕ) (b : Background) (xs : List Addition) (k : Accounts b xs) where
+  removed : (b′ : Background) → outcome (removes n rasters labels) b ≡ changed b′ → Accounts b′ (except n xs)
   unfolding outcome removal removeTests present left
   removed b′ e =
       let p = passed refused (removeTests n rasters labels b) _ (changed b′) never e in
       let there = ltb-true (place n (b .members)) (stills b) (p .0 .1 .0) in
       let is : record { width = b .width; height = b .height; channels = b .channels; members = left n b xs k there } ≡ b′ = cc in
-      subst (λ (z : Background). Kept z (except n xs)) is
+      subst (λ (z : Background). Accounts z (except n xs)) is
       (record { same = left-same n b xs k there; distinct = left-distinct n b xs k there; chain = chain-except n (k .chain) })
 
 -- any operation, and any list of them
-kept-behind : (o : Operation) (b : Background) (xs : List Addition) → Kept b xs → Kept (behind (outcome o b) b) (leftAfter o (outcome o b) xs)
-kept-behind o b xs k = go o (outcome o b) refl
+kept-after : (o : Operation) (b : Background) (xs : List Addition) → Accounts b xs → Accounts (afterOutcome (outcome o b) b) (leftAfter o (outcome o b) xs)
+kept-after o b xs k = go o (outcome o b) refl
   where
-    go : (o : Operation) (r : Outcome) → outcome o b ≡ r → Kept (behind r b) (leftAfter o r xs)
+    go : (o : Operation) (r : Outcome) → outcome o b ≡ r → Accounts (afterOutcome r b) (leftAfter o r xs)
     go o (refused n) e = k
     go (adds a) (changed b′) e = added a b xs k b′ e
     go (removes n rasters labels) (changed b′) e = removed n rasters labels b xs k b′ e
 
-kept-history : (os : List Operation) (b : Background) (xs : List Addition) → Kept b xs → Kept (history os b) (survivors os b xs)
+kept-history : (os : List Operation) (b : Background) (xs : List Addition) → Accounts b xs → Accounts (history os b) (survivors os b xs)
 unfolding history survivors
 kept-history [] b xs k = k
-kept-history (o ∷ os) b xs k = kept-history os _ _ (kept-behind o b xs k)
+kept-history (o ∷ os) b xs k = kept-history os _ _ (kept-after o b xs k)
 
 -- ---- the additions left, added to an empty background
 
@@ -314,7 +314,7 @@ module _ (W H c : ℕ) where
   built-suits [] = refl
   built-suits (a ∷ xs) = rw (eq-eqb W W refl, eq-eqb H H refl, eq-eqb c c refl) (or-true (eqb (length (given (a ∷ xs))) 0))
 
-  built-room : (xs : List Addition) (a : Addition) → Follows W H c (length xs) a → heldRoom (heldOf (built W H c xs)) (a .rasters) (a .labels) ≡ true
+  built-room : (xs : List Addition) (a : Addition) → Follows W H c (length xs) a → heldRoom (heldOf (built W H c xs)) (a .bytes) (a .words) ≡ true
   unfolding built heldRoom smallNumbers
   built-room [] a f = refl
   built-room (x ∷ xs) a f =
@@ -326,7 +326,7 @@ module _ (W H c : ℕ) where
         le-leb W 65535 (omega (arith, side-le W (v .width))),
         le-leb H 65535 (omega (arith, side-le H (v .height))),
         le-leb c 65535 (omega (arith, channels-few c (v .channels))),
-        room-fewer n (suc (length (x ∷ xs))) (W * H * c) (a .rasters) (a .labels) (omega arith) (f .room),
+        room-fewer n (suc (length (x ∷ xs))) (W * H * c) (a .bytes) (a .words) (omega arith) (f .room),
       ) (or-true (eqb n 0))
 
   built-joined : (xs : List Addition) (a : Addition) (start : ℕ) → stillOf (a .file) ≡ Still.Picture W H c start
@@ -362,7 +362,7 @@ module _ (W H c : ℕ) where
       let follows : Follows W H c (length done) a = rw e at f in
       let new = first-of (given done) (memberOf a) (given xs) (rw (map-append memberOf done (a ∷ xs)) at d) in
       let next : (done ++ (a ∷ [])) ++ xs ≡ done ++ (a ∷ xs) = append-assoc done (a ∷ []) xs in
-      ap (λ (r : Outcome). history (map adds xs) (behind r (built W H c done))) (built-more done a follows new)
+      ap (λ (r : Outcome). history (map adds xs) (afterOutcome r (built W H c done))) (built-more done a follows new)
       ∙ replayed (done ++ (a ∷ [])) h (rw (length-append done (a ∷ [])) (omega (arith, e))) (rw (sym next) at d)
       ∙ ap (built W H c) next
 

@@ -8,6 +8,7 @@ use lib.ListN.{length, getD, take, drop, length-map}
 use lib.Seq.{getD-take, getD-drop}
 use lib.Dec.{leb, eqb}
 use borrow.Author.Tests.{eqb-false, leb-true}
+use Rattle.integers.specs.Divide.{nearest}
 use Rattle.integers.specs.Sum.{sum}
 use Rattle.lists.specs.Tabulate.{tabulate}
 use Rattle.lists.proofs.Sums.{map-tabulate}
@@ -22,8 +23,8 @@ use Rattle.answers.specs.declared.Mean.the-variants.{Refused, NoStills, Of}
 use Rattle.background.specs.Background.{samples}
 use Rattle.background.specs.Room.{heldRoom}
 use Rattle.background.specs.Mean.{meanOf, samplesAt, meanRaster, meanTolerance, meanTests, meanAnswer}
-use Rattle.background.specs.Memory.{memberIn, backgroundIn}
-use Rattle.background_means.specs.Sums.{placeSum, roundedMean}
+use Rattle.background.specs.Memory.{slot, memberIn, backgroundIn}
+use Rattle.raster_means.specs.Sums.{placeSum}
 use Rattle.background_slots.proofs.Holding.{stills-in, held-in, tolerances-in}
 use Rattle.background_slots.proofs.HeldRoom.{Lent, held-lent}
 
@@ -40,15 +41,15 @@ module _ (h : Held) (rasters labels : List ℕ) where
   tolerance-in = rw (tolerances-in h rasters labels)
 
   -- a sample of the mean: of all members at place j
-  mean-at : (j : ℕ) → j < size → meanOf (samplesAt j (tabulate (memberIn size rasters labels) (h .count))) ≡ roundedMean (h .count) (placeSum rasters size (h .count) j)
-  unfolding meanOf samplesAt memberIn placeSum roundedMean
+  mean-at : (j : ℕ) → j < size → meanOf (samplesAt j (tabulate (memberIn size rasters labels) (h .count))) ≡ nearest (placeSum rasters size (h .count) j) (h .count)
+  unfolding meanOf samplesAt memberIn slot placeSum
   mean-at j b =
       let at : ℕ → ℕ = λ i. getD (take size (drop (i * size) rasters)) j 0 in
       let same : tabulate at (h .count) ≡ tabulate (λ i. getD rasters (i * size + j) 0) (h .count) =
       tabulate-ext _ _ (h .count) (λ i l. getD-take size (drop (i * size) rasters) j 0 b ∙ getD-drop (i * size) rasters j 0) in
       rw (map-tabulate (λ m. getD (m .raster) j 0) (memberIn size rasters labels) (h .count)) (rw (length-tabulate at (h .count), same))
 
-  pub raster-in : meanRaster (backgroundIn h rasters labels) ≡ tabulate (λ j. roundedMean (h .count) (placeSum rasters size (h .count) j)) size
+  pub raster-in : meanRaster (backgroundIn h rasters labels) ≡ tabulate (λ j. nearest (placeSum rasters size (h .count) j) (h .count)) size
   unfolding meanRaster backgroundIn
   raster-in = tabulate-ext _ _ size mean-at
 
@@ -84,6 +85,6 @@ module _ (h : Held) (rasters labels : List ℕ) where
           above m d = omega (arith, d)
 
   -- the raster that was written is the mean still
-  pub written : (out : List ℕ) {k n bytes words room : ℕ} {out′ : List ℕ} → Shown k n bytes words room → out′ ≡ tabulate (λ j. roundedMean k (placeSum rasters n k j)) n ++ drop n out
+  pub written : (out : List ℕ) {k n bytes words room : ℕ} {out′ : List ℕ} → Shown k n bytes words room → out′ ≡ tabulate (λ j. nearest (placeSum rasters n k j) k) n ++ drop n out
       → out′ ≡ meanRaster (backgroundIn h rasters labels) ++ drop n out
   written out s e = rw raster-in (rw (s .stills-are, s .length-is) at e ∙ rw (s .length-is))

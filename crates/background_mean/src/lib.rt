@@ -9,7 +9,7 @@ ghost use Rattle.model.specs.Outline.{largest};
 ghost use Rattle.background.specs.Mean.{meanAnswer};
 ghost use Rattle.background.specs.Memory.{backgroundIn, Means};
 
-// The largest T and half a level, at most 255 levels. The sum needs more than 32 bits.
+// The largest T plus half a level, at most 255 levels. The sum needs more than 32 bits.
 fn mean_tolerance(labels: &[u32], count: usize) -> u64
     requires { ⌜ 2 * count ≤ length (now labels) ⌝ }
     ensures { λ r. ⌜ r ≡ min (largest (tabulate (λ i. getD (now (labels .entry)) (2 * i + 1) 0) count) + 32768) 16711680 ⌝ }
@@ -51,7 +51,7 @@ pub fn mean_still(held: Held, rasters: &[u8], labels: &[u32], out: &mut [u8]) ->
     match answer {
         Mean::Refused(_) => {}
         Mean::NoStills => {}
-        Mean::Of { stills, len, .. } => background_means::mean_raster(rasters, len, stills, out),
+        Mean::Of { stills, len, .. } => raster_means::mean_raster(rasters, len, stills, out),
     }
     answer
 }

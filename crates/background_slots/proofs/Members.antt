@@ -11,8 +11,8 @@ use lib.Dec.{ltb, eqb}
 use borrow.Author.Tests.{ltb-true, ltb-false, eqb-true, eqb-false}
 use Rattle.lists.proofs.Part.{drop-past}
 use Rattle.background.specs.Background.{Member, member}
-use Rattle.background.specs.Memory.{memberIn}
-use Rattle.background_slots.specs.Slot.{slot, withRaster, withLabels}
+use Rattle.background.specs.Memory.{slot, memberIn}
+use Rattle.background_slots.specs.Slot.{withRaster, withLabels}
 
 -- ---- rasters
 

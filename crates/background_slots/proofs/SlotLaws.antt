@@ -8,7 +8,8 @@ use lib.Seq.{length-take-le, getD-drop, getD-append-add, drop-drop}
 use Rattle.lists.specs.Tabulate.{tabulate}
 use Rattle.lists.proofs.Part.{tail-mid, behind}
 use Rattle.lists.proofs.Tabulate.{length-tabulate, tabulate-ext, tabulate-getD}
-use Rattle.background_slots.specs.Slot.{slot, withRaster}
+use Rattle.background.specs.Memory.{slot}
+use Rattle.background_slots.specs.Slot.{withRaster}
 
 -- n entries from a place on, one by one
 pub entries-from : (xs : List ℕ) (from n : ℕ) → from + n ≤ length xs → tabulate (λ j. getD xs (from + j) 0) n ≡ take n (drop from xs)

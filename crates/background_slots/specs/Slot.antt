@@ -3,10 +3,6 @@ use Prim.Native.Nat.{ℕ, _+_, _*_}
 use mathlib.Core.List.{List, _++_}
 use lib.ListN.{take, drop, set}
 
--- the raster in slot i
-unfoldable pub slot : ℕ → ℕ → List ℕ → List ℕ
-slot size i rasters = take size (drop (i * size) rasters)
-
 -- rasters with another one in slot i
 unfoldable pub withRaster : ℕ → ℕ → List ℕ → List ℕ → List ℕ
 withRaster size i raster rasters = take (i * size) rasters ++ (raster ++ drop (i * size + size) rasters)

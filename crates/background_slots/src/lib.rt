@@ -8,7 +8,8 @@ ghost use Rattle.lists.specs.Tabulate.{tabulate};
 ghost use Rattle.model.specs.Outline.{largest};
 ghost use Rattle.background.specs.Background.{position};
 ghost use Rattle.background.specs.Room.{roomFor, smallNumbers, heldRoom};
-ghost use Rattle.background_slots.specs.Slot.{slot, withRaster, withLabels};
+ghost use Rattle.background.specs.Memory.{slot};
+ghost use Rattle.background_slots.specs.Slot.{withRaster, withLabels};
 
 // Whether k stills of `size` samples have room in this much lent memory.
 pub fn room_for(k: usize, size: usize, rasters: usize, labels: usize) -> bool
@@ -41,7 +42,7 @@ fn small_numbers(held: Held) -> bool
     channels <= 65535
 }
 
-// Whether the stills held have their room. Numbers that no call has left in `held` do not get past this test.
+// Whether the stills held have their room. What has passed this test can be multiplied.
 pub fn held_room(held: Held, rasters: usize, labels: usize) -> bool
     ensures { λ r. ⌜ r ≡ heldRoom held rasters labels ⌝ }
 {
@@ -73,6 +74,7 @@ pub fn find(labels: &[u32], count: usize, number: u32) -> usize
     count
 }
 
+// The larger of two T.
 fn larger(a: u32, b: u32) -> u32
     ensures { λ r. ⌜ r ≡ max a b ⌝ }
 {

@@ -1,4 +1,4 @@
--- NO REFUSAL'S NUMBER IS 0, of none of the five calls: so a C caller who gets 0 has the answer. Assumes nothing.
+-- NO REFUSAL'S NUMBER IS 0, of none of the eight calls: so a C caller who gets 0 has the answer. Assumes nothing.
 use Prim.Native.Nat.{ℕ, zero, suc, _+_, _≤_}
 use native.Mathlib.Omega.{arith}
 use mathlib.Core.Path.{_≡_, refl}
@@ -19,6 +19,8 @@ use Rattle.answers.specs.declared.Filtered.{Filtered}
 use Rattle.answers.specs.declared.Filtered.the-variants as Filtered
 use Rattle.answers.specs.declared.File.{File}
 use Rattle.answers.specs.declared.File.the-variants as File
+use Rattle.answers.specs.declared.Mean.{Mean}
+use Rattle.answers.specs.declared.Mean.the-variants as Mean
 use Rattle.model.specs.Stage.{Stage}
 use Rattle.recipe_bytes.specs.Bytes.{at, signed8, there}
 use Rattle.stage_fields.specs.StageFields.{headTests, radiusTests, positionTests}
@@ -35,8 +37,12 @@ use Rattle.room.specs.declared.Lent.{Lent}
 use Rattle.room.specs.Room.{lent, roomTests}
 use Rattle.filter_answers.specs.PlaneAnswer.{planeTests, planeAnswer}
 use Rattle.filter_answers.specs.FileAnswer.{fileSize, stillAnswer, fileAnswer}
-use Rattle.told.specs.Numbers.{Told, refusal, values, Tells, stillTold, writtenTold, recipeTold, planeTold, fileTold}
-use Rattle.capi.specs.Calls.{WritesStill, FiltersPlane, FiltersFile}
+use Rattle.background.specs.Background.{Background, stills, samples}
+use Rattle.background.specs.Change.{Outcome, refused, changed, addTests, additionOf, addition, removeTests, removal}
+use Rattle.background.specs.Mean.{meanTolerance, meanTests, meanAnswer}
+use Rattle.background.specs.Memory.{answerOf}
+use Rattle.told.specs.Numbers.{Told, refusal, values, Tells, stillTold, writtenTold, recipeTold, planeTold, fileTold, changedTold, meanTold}
+use Rattle.capi.specs.Calls.{WritesStill, FiltersPlane, FiltersFile, ChangesBackground, MeansStills}
 use Rattle.call_laws.specs.Success.{Success}
 
 -- ---- tests whose numbers are not 0
@@ -120,7 +126,7 @@ recipe-numbered : (b : List ℕ) → numbered (recipeTests b) ≡ true
 unfolding recipeTests there
 recipe-numbered b = stages-numbered (at b 0) (drop 1 b)
 
--- ---- the five calls
+-- ---- the calls of document 01
 
 picture-number : (c : ℕ) (h : Header) (total n : ℕ) → pictureOf c h total ≡ Still.Refused n → 1 ≤ n
 unfolding pictureOf headerTests
@@ -168,6 +174,38 @@ unfolding fileAnswer
 filter-file-number recipe still l n e =
     refused-number File.Refused (λ m k f. cc) (recipeTests recipe) (stillAnswer (recipeStages recipe) l (stillOf still)) n (recipe-numbered recipe) (still-answer-number (recipeStages recipe) l (stillOf still) n (read-still-number still)) e
 
+-- ---- the calls of document 02
+
+never-changed : {b : Background} (n : ℕ) → changed b ≡ refused n → 1 ≤ n
+never-changed n f = let z : _≡_ {A = ℕ} 0 1 = cc in absurd (omega arith)
+
+-- the still's own refusal, or one of the background's
+addition-number : (s : Still) (file : List ℕ) (number T rasters labels : ℕ) (b : Background) (n : ℕ) → ((k : ℕ) → s ≡ Still.Refused k → 1 ≤ k)
+    → additionOf s file number T rasters labels b ≡ refused n → 1 ≤ n
+unfolding addTests
+addition-number (Still.Refused k) file number T rasters labels b n h e = let d : k ≡ n = cc in rw d at (h k refl)
+addition-number (Still.Picture W H c start) file number T rasters labels b n h e =
+    refused-number refused (λ m k f. cc) (addTests number W H c rasters labels b) (changed _) n refl (never-changed n) e
+
+pub add-still-number : (file : List ℕ) (number T rasters labels : ℕ) (b : Background) (n : ℕ) → addition file number T rasters labels b ≡ refused n → 1 ≤ n
+unfolding addition
+add-still-number file number T rasters labels b n e = addition-number (stillOf file) file number T rasters labels b n (read-still-number file) e
+
+pub remove-still-number : (number rasters labels : ℕ) (b : Background) (n : ℕ) → removal number rasters labels b ≡ refused n → 1 ≤ n
+unfolding removal removeTests
+remove-still-number number rasters labels b n e = refused-number refused (λ m k f. cc) (removeTests number rasters labels b) (changed _) n refl (never-changed n) e
+
+pub mean-still-number : (rasters labels out : ℕ) (b : Background) (n : ℕ) → meanAnswer rasters labels out b ≡ Mean.Refused n → 1 ≤ n
+unfolding meanAnswer meanTests
+mean-still-number rasters labels out b n e = go (eqb (stills b) 0) e
+  where
+    go : (t : Bool) → cond t Mean.NoStills (tested Mean.Refused (meanTests rasters labels out b) (Mean.Of (stills b) (meanTolerance (b .members)) (samples b))) ≡ Mean.Refused n → 1 ≤ n
+    go true f = let z : _≡_ {A = ℕ} 0 1 = cc in absurd (omega arith)
+    go false f = refused-number Mean.Refused (λ m k f. cc) (meanTests rasters labels out b) (Mean.Of _ _ _) n refl other f
+      where
+        other : {k T s : ℕ} → Mean.Of k T s ≡ Mean.Refused n → 1 ≤ n
+        other f = let z : _≡_ {A = ℕ} 0 1 = cc in absurd (omega arith)
+
 -- ---- the same for a C caller: 0 is told of success alone
 
 abbrev NoZero : Told → Type 0
@@ -198,6 +236,15 @@ file-told : (a : File) → ((n : ℕ) → a ≡ File.Refused n → 1 ≤ n) → 
 file-told (File.Refused n) h = h n refl
 file-told (File.Picture W H c T n) h = tt
 
+changed-told : (o : Outcome) → ((n : ℕ) → o ≡ refused n → 1 ≤ n) → NoZero (changedTold (answerOf o))
+changed-told (refused n) h = h n refl
+changed-told (changed b) h = tt
+
+mean-told : (a : Mean) → ((n : ℕ) → a ≡ Mean.Refused n → 1 ≤ n) → NoZero (meanTold a)
+mean-told (Mean.Refused n) h = h n refl
+mean-told Mean.NoStills h = tt
+mean-told (Mean.Of k T n) h = tt
+
 -- each contract of the C interface, where the function returns 0
 module _ {array array′ : List ℕ} {r : ℕ} (returns-0 : r ≡ 0) where
   pub read-still-success : (bytes : List ℕ) → Tells (stillTold (stillOf bytes)) array array′ r → Success (stillTold (stillOf bytes)) array′
@@ -226,3 +273,25 @@ module _ {array array′ : List ℕ} {r : ℕ} (returns-0 : r ≡ 0) where
         let lengths = lent (length work) (length rows) (length sums) (length out) in
         let a = fileAnswer recipe still lengths in
         succeeds (fileTold a) (file-told a (filter-file-number recipe still lengths)) (f .told) returns-0
+
+  -- on the background b that the lent memory holds
+  module _ (b : Background) (rasters labels : List ℕ) where
+    pub add-still-success : (still : List ℕ) (number T : ℕ) (rasters′ labels′ : List ℕ)
+        → ChangesBackground (addition still number T (length rasters) (length labels) b) rasters rasters′ labels labels′ array array′ r
+        → Success (changedTold (answerOf (addition still number T (length rasters) (length labels) b))) array′
+    add-still-success still number T rasters′ labels′ c =
+        let o = addition still number T (length rasters) (length labels) b in
+        succeeds (changedTold (answerOf o)) (changed-told o (add-still-number still number T (length rasters) (length labels) b)) (c .told) returns-0
+
+    pub remove-still-success : (number : ℕ) (rasters′ labels′ : List ℕ)
+        → ChangesBackground (removal number (length rasters) (length labels) b) rasters rasters′ labels labels′ array array′ r
+        → Success (changedTold (answerOf (removal number (length rasters) (length labels) b))) array′
+    remove-still-success number rasters′ labels′ c =
+        let o = removal number (length rasters) (length labels) b in
+        succeeds (changedTold (answerOf o)) (changed-told o (remove-still-number number (length rasters) (length labels) b)) (c .told) returns-0
+
+    pub mean-still-success : (out out′ : List ℕ) → MeansStills b rasters labels out out′ array array′ r
+        → Success (meanTold (meanAnswer (length rasters) (length labels) (length out) b)) array′
+    mean-still-success out out′ m =
+        let a = meanAnswer (length rasters) (length labels) (length out) b in
+        succeeds (meanTold a) (mean-told a (mean-still-number (length rasters) (length labels) (length out) b)) (m .told) returns-0

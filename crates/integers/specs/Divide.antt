@@ -1,5 +1,5 @@
--- Quotients of whole numbers, rounded down or up, what rounding down leaves, and the clamp.
-use Prim.Native.Nat.{ℕ, suc, _+_, _-_, _/_, _%_, min}
+-- Quotients of whole numbers, rounded down, up or to the nearest, what rounding down leaves, and the clamp.
+use Prim.Native.Nat.{ℕ, suc, _+_, _-_, _*_, _/_, _%_, min}
 use lib.IntN.{ℤ, pos, negsuc}
 use lib.Signed.{shrZ}
 
@@ -15,6 +15,10 @@ modulo (negsuc a) m = m - suc (a % m)
 -- a / m rounded up (m above 0)
 unfoldable pub ceilDiv : ℕ → ℕ → ℕ
 ceilDiv a m = (a + (m - 1)) / m
+
+-- a / m rounded to the nearest, halves up (m above 0)
+abbrev pub nearest : ℕ → ℕ → ℕ
+nearest a m = (2 * a + m) / (2 * m)
 
 -- z cut to 0 to m
 unfoldable pub clamp : ℕ → ℤ → ℕ

@@ -67,7 +67,7 @@ fileLong = 21
 abbrev pub fileUnread : ℕ
 fileUnread = 22
 
--- 23 to 25, of a background: a number to add that is there, or one to remove that is not · a still of another size than those held · a thousand held
+-- 23 to 25, of a background: a number to add that is there, or one to remove that is not · a still of another size or other channels than those held · a thousand held
 abbrev pub stillNumber : ℕ
 stillNumber = 23
 

@@ -1,5 +1,5 @@
-// Runs a script on a background and prints what each step answers. Of one memory `lend BYTES NUMBERS` says how much is lent from now on; `add NUMBER T FILE`, `take NUMBER`
-// and `mean LENGTH` are steps.
+// Runs a script on a background, and prints the answer to each step. Steps are `add NUMBER T FILE`, `take NUMBER` and `mean LENGTH`. `lend BYTES NUMBERS` is no step: it
+// says how much of 4,096 bytes and 4,096 numbers is lent from there on.
 use answers::Changed;
 use answers::Held;
 use answers::Mean;
@@ -36,6 +36,7 @@ fn number(line: &[u8], k: usize) -> u32 {
     (words::number(line, k) % 4294967296) as u32
 }
 
+// A hexadecimal digit.
 fn digit(n: u8) -> u8 {
     if n < 10 {
         return n % 16 + 48;
@@ -52,6 +53,7 @@ fn show_hex(bytes: &[u8]) {
     }
 }
 
+// The still of a file added.
 fn add(folder: &[u8], line: &[u8], held: Held, rasters: &mut [u8], labels: &mut [u32]) -> Changed {
     let mut still = io::buffer();
     let n = files::load(folder, &line[words::after(line, 3)..], 0, &mut still);
@@ -65,6 +67,7 @@ fn add(folder: &[u8], line: &[u8], held: Held, rasters: &mut [u8], labels: &mut 
     )
 }
 
+// A still added, or one taken out.
 fn change(
     folder: &[u8],
     line: &[u8],
@@ -78,7 +81,7 @@ fn change(
     background_changes::remove_still(held, number(line, 1), rasters, labels)
 }
 
-// What is held behind a change.
+// Prints what a change answers. What is held after it.
 fn show_change(answer: Changed, held: Held) -> Held {
     match answer {
         Changed::Refused(n) => {
@@ -92,6 +95,7 @@ fn show_change(answer: Changed, held: Held) -> Held {
     }
 }
 
+// Prints what a mean answers.
 fn show_answer(answer: Mean, out: &[u8]) {
     match answer {
         Mean::Refused(n) => printing::refusal(n),
@@ -105,17 +109,19 @@ fn show_answer(answer: Mean, out: &[u8]) {
     }
 }
 
+// A mean with this output.
 fn mean_on(held: Held, rasters: &[u8], labels: &[u32], out: &mut [u8]) {
     let answer = background_mean::mean_still(held, rasters, labels, out);
     show_answer(answer, out);
 }
 
+// A mean with an output of as many bytes as its line says.
 fn show_mean(line: &[u8], held: Held, rasters: &[u8], labels: &[u32]) {
     let mut out = [0u8; 4096];
     mean_on(held, rasters, labels, &mut out[..at_most(line, 1)]);
 }
 
-// A change or a mean, and what is held behind it.
+// A change or a mean, and what is held after it.
 fn step(folder: &[u8], line: &[u8], held: Held, rasters: &mut [u8], labels: &mut [u32]) -> Held {
     if letter(line) == b'm' {
         show_mean(line, held, rasters, labels);
@@ -124,7 +130,7 @@ fn step(folder: &[u8], line: &[u8], held: Held, rasters: &mut [u8], labels: &mut
     show_change(change(folder, line, held, rasters, labels), held)
 }
 
-// A line of the script, and what is held behind it.
+// A line of the script, and what is held after it.
 fn run_line(
     folder: &[u8],
     line: &[u8],
@@ -148,7 +154,7 @@ fn at_most(line: &[u8], k: usize) -> usize
     integers::smaller(words::number(line, k), 4096)
 }
 
-// How much of 4,096 is lent behind a line: what its number after k blanks says, if it is one that lends, else as much as before it.
+// How much of 4,096 is lent after a line: what its number after k blanks says, if it is one that lends, else as much as before it.
 fn lent(line: &[u8], k: usize, before: usize) -> usize
     ensures { λ r. ⌜ r ≤ 4096 ⌝ }
 {
@@ -168,16 +174,22 @@ pub fn run(folder: &[u8], script: &[u8]) {
         height: 0,
         channels: 0,
     };
-    let mut a = 0;
-    let mut b = 0;
+    let mut bytes = 0;
+    let mut numbers = 0;
     let mut at = 0;
     while at < script.len() {
         let rest = &script[at..];
         let end = line_end(rest);
         let line = &rest[..end];
-        a = lent(line, 1, a);
-        b = lent(line, 2, b);
-        held = run_line(folder, line, held, &mut rasters[..a], &mut labels[..b]);
+        bytes = lent(line, 1, bytes);
+        numbers = lent(line, 2, numbers);
+        held = run_line(
+            folder,
+            line,
+            held,
+            &mut rasters[..bytes],
+            &mut labels[..numbers],
+        );
         at += end + 1;
     }
 }

@@ -1,6 +1,5 @@
 -- `background_changes::remove_tests` meets its contract, test by test. Assumes nothing.
 use Prim.Native.Nat.{ℕ}
-use native.Mathlib.Omega.{arith}
 use mathlib.Core.Path.{sym, ap, _∙_}
 use lib.ListN.{length}
 use lib.Dec.{ltb}
@@ -18,16 +17,27 @@ held-room-requires : tie.Need-held-room-requires
 held-room-requires c κs = search needs
 
 returns : tie.Need-returns
-returns c = rw (remove-tests-in (c .before .before .before .before .args .number) (length (now (c .before .before .before .before .args .rasters))) (length (now (c .before .before .before .before .args .labels))) (c .before .before .before .before .args .held) (now (c .before .before .before .before .args .rasters)) (now (c .before .before .before .before .args .labels)), sym (c .before .held-room .ensures) ∙ not-true _ (c .if1 .taken))
+returns c =
+    let a = c .before .before .before .before .args in
+    let room = sym (c .before .held-room .ensures) ∙ not-true _ (c .if1 .taken) in
+    rw (remove-tests-in (a .number) (length (now (a .rasters))) (length (now (a .labels))) (a .held) (now (a .rasters)) (now (a .labels)), room)
 
 find-requires : tie.Need-find-requires
 find-requires c κs = labels-lent _ _ _ (sym (c .before .held-room .ensures) ∙ not-false _ (c .if1 .left))
 
 returns-2 : tie.Need-returns-2
-returns-2 c = rw (remove-tests-in (c .before .before .before .before .before .before .args .number) (length (now (c .before .before .before .before .before .before .args .rasters))) (length (now (c .before .before .before .before .before .before .args .labels))) (c .before .before .before .before .before .before .args .held) (now (c .before .before .before .before .before .before .args .rasters)) (now (c .before .before .before .before .before .before .args .labels)), sym (c .before .before .before .held-room .ensures) ∙ not-false _ (c .before .before .if1 .left), ap (λ (s : ℕ). ltb s (c .before .before .before .before .before .before .args .held .count)) (sym (c .before .find .ensures)) ∙ lt-ltb _ _ (c .if2 .taken), numbers-in (c .before .before .before .before .before .before .args .held) (now (c .before .before .before .before .before .before .args .rasters)) (now (c .before .before .before .before .before .before .args .labels))) (ap Found.Slot (c .before .find .ensures))
+returns-2 c =
+    let a = c .before .before .before .before .before .before .args in
+    let room = sym (c .before .before .before .held-room .ensures) ∙ not-false _ (c .before .before .if1 .left) in
+    let there = ap (λ (s : ℕ). ltb s (a .held .count)) (sym (c .before .find .ensures)) ∙ lt-ltb _ _ (c .if2 .taken) in
+    rw (remove-tests-in (a .number) (length (now (a .rasters))) (length (now (a .labels))) (a .held) (now (a .rasters)) (now (a .labels)), room, there, numbers-in (a .held) (now (a .rasters)) (now (a .labels))) (ap Found.Slot (c .before .find .ensures))
 
 returns-3 : tie.Need-returns-3
-returns-3 c = rw (remove-tests-in (c .before .before .before .before .before .before .args .number) (length (now (c .before .before .before .before .before .before .args .rasters))) (length (now (c .before .before .before .before .before .before .args .labels))) (c .before .before .before .before .before .before .args .held) (now (c .before .before .before .before .before .before .args .rasters)) (now (c .before .before .before .before .before .before .args .labels)), sym (c .before .before .before .held-room .ensures) ∙ not-false _ (c .before .before .if1 .left), ap (λ (s : ℕ). ltb s (c .before .before .before .before .before .before .args .held .count)) (sym (c .before .find .ensures)) ∙ le-ltb _ _ (c .if2 .left))
+returns-3 c =
+    let a = c .before .before .before .before .before .before .args in
+    let room = sym (c .before .before .before .held-room .ensures) ∙ not-false _ (c .before .before .if1 .left) in
+    let there = ap (λ (s : ℕ). ltb s (a .held .count)) (sym (c .before .find .ensures)) ∙ le-ltb _ _ (c .if2 .left) in
+    rw (remove-tests-in (a .number) (length (now (a .rasters))) (length (now (a .labels))) (a .held) (now (a .rasters)) (now (a .labels)), room, there)
 
 pub remove-tests-spec : {M : Type 1} → statement M
 remove-tests-spec =

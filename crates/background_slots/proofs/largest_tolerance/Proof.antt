@@ -1,9 +1,9 @@
 -- `background_slots::largest_tolerance` meets its contract: the largest so far. Assumes nothing.
-use Prim.Native.Nat.{ℕ, _+_, _*_, _-_, _≤_, _<_}
+use Prim.Native.Nat.{ℕ, _+_, _*_, _-_, _≤_, max}
 use native.Mathlib.Omega.{arith}
-use mathlib.Core.Path.{_≡_, refl, sym, _∙_}
-use mathlib.Core.Bool.{false}
+use mathlib.Core.Path.{_≡_, sym, ap, _∙_}
 use lib.ListN.{getD}
+use denote.Ref.{now}
 use Rattle.lists.specs.Tabulate.{tabulate}
 use Rattle.model.specs.Outline.{largest}
 use Rattle.background_slots.proofs.Search.{largest-none, largest-more}
@@ -45,7 +45,8 @@ loop-less c = search needs
 loop-again : tie.Need-loop-again Inv-loop μ-loop
 loop-again c =
     let L = c .before .before .before .loop in
-    (omega (arith, c .before .before .loop-test .taken), c .larger .ensures ∙ rw (L .inv .1) (sym (largest-more _ (L .i))))
+    let tolerance : ℕ → ℕ = λ j. getD (now (c .before .before .before .before .before .args .labels)) (2 * j + 1) 0 in
+    (omega (arith, c .before .before .loop-test .taken), c .larger .ensures ∙ ap (λ (most : ℕ). max most (tolerance (L .i))) (L .inv .1) ∙ sym (largest-more tolerance (L .i)))
 
 returns : tie.Need-returns Inv-loop μ-loop
 returns c =

@@ -9,10 +9,10 @@ use Rattle.scripts.proofs.run.Statement.{statement}
 use Rattle.scripts.proofs.run.Tie as tie
 
 abbrev Inv-loop : tie.InvT-loop
-Inv-loop folder script rasters₀ labels₀ held₀ a₀ b₀ at₀ rasters labels held a b at = (length rasters ≡ 4096) × (length labels ≡ 4096)
+Inv-loop folder script rasters₀ labels₀ held₀ bytes₀ numbers₀ at₀ rasters labels held bytes numbers at = (length rasters ≡ 4096) × (length labels ≡ 4096)
 
 abbrev μ-loop : tie.MeasureT-loop
-μ-loop folder script rasters₀ labels₀ held₀ a₀ b₀ at₀ rasters labels held a b at = length script - at
+μ-loop folder script rasters₀ labels₀ held₀ bytes₀ numbers₀ at₀ rasters labels held bytes numbers at = length script - at
 
 loop-holds : tie.Need-loop-holds Inv-loop μ-loop
 loop-holds c = search needs

@@ -1,4 +1,4 @@
--- `background_means::block_sums` meets its contract: raster by raster. Assumes nothing.
+-- `raster_means::block_sums` meets its contract: raster by raster. Assumes nothing.
 use Prim.Native.Nat.{ℕ, _+_, _*_, _-_, _≤_, _<_}
 use native.Mathlib.Nat.{le-antisymm}
 use native.Mathlib.Omega.{arith}
@@ -9,11 +9,11 @@ use denote.Ref.{now}
 use Rattle.lists.specs.Tabulate.{tabulate}
 use Rattle.lists.proofs.Part.{tail-mid}
 use Rattle.lists.proofs.Tabulate.{length-filled, filled-at}
-use Rattle.background_means.specs.Sums.{placeSum}
-use Rattle.background_means.proofs.PlaceSums.{sums-none, sums-more, sum-le, part-inside}
+use Rattle.raster_means.specs.Sums.{placeSum}
+use Rattle.raster_means.proofs.PlaceSums.{sums-none, sums-more, sum-le, part-inside}
 use borrow.Author.Needs.{needs}
-use Rattle.background_means.proofs.block_sums.Statement.{statement}
-use Rattle.background_means.proofs.block_sums.Tie as tie
+use Rattle.raster_means.proofs.block_sums.Statement.{statement}
+use Rattle.raster_means.proofs.block_sums.Tie as tie
 
 abbrev Inv-loop : tie.InvT-loop
 Inv-loop rasters size k at n sums₀ i₀ sums i = (i ≤ k) × (sums ≡ tabulate (λ (u : ℕ). placeSum rasters size i (at + u)) n ++ drop n sums₀) × (length sums ≡ length sums₀)

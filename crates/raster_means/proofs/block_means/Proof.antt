@@ -1,15 +1,15 @@
--- `background_means::block_means` meets its contract: what is stored so far, then what was there. Assumes nothing.
+-- `raster_means::block_means` meets its contract: what is stored so far, then what was there. Assumes nothing.
 use Prim.Native.Nat.{_-_}
 use mathlib.Core.Path.{_∙_}
 use lib.ListN.{getD}
 use Rattle.lists.proofs.Stored.{Stored, stored-none, stored-more, stored-done}
-use Rattle.background_means.specs.Sums.{roundedMean}
+use Rattle.integers.specs.Divide.{nearest}
 use borrow.Author.Needs.{needs}
-use Rattle.background_means.proofs.block_means.Statement.{statement}
-use Rattle.background_means.proofs.block_means.Tie as tie
+use Rattle.raster_means.proofs.block_means.Statement.{statement}
+use Rattle.raster_means.proofs.block_means.Tie as tie
 
 abbrev Inv-loop : tie.InvT-loop
-Inv-loop sums n k by out₀ u₀ out u = Stored (λ i. roundedMean k (getD sums i 0)) n out₀ out u
+Inv-loop sums n k by out₀ u₀ out u = Stored (λ i. nearest (getD sums i 0) k) n out₀ out u
 
 abbrev μ-loop : tie.MeasureT-loop
 μ-loop sums n k by out₀ u₀ out u = n - u

@@ -1,4 +1,4 @@
--- `background_means::mean_raster` meets its contract: block by block. Assumes nothing.
+-- `raster_means::mean_raster` meets its contract: block by block. Assumes nothing.
 use Prim.Native.Nat.{ℕ, _+_, _-_, _≤_}
 use native.Mathlib.Omega.{arith}
 use mathlib.Core.Path.{ap, _∙_}
@@ -7,13 +7,14 @@ use denote.Ref.{now}
 use Rattle.lists.proofs.Part.{tail-mid}
 use Rattle.lists.proofs.Stored.{Stored, stored-none, stored-done}
 use Rattle.lists.proofs.Tabulate.{fill-part, length-filled}
-use Rattle.background_means.specs.Sums.{placeSum, roundedMean}
+use Rattle.integers.specs.Divide.{nearest}
+use Rattle.raster_means.specs.Sums.{placeSum}
 use borrow.Author.Needs.{needs}
-use Rattle.background_means.proofs.mean_raster.Statement.{statement}
-use Rattle.background_means.proofs.mean_raster.Tie as tie
+use Rattle.raster_means.proofs.mean_raster.Statement.{statement}
+use Rattle.raster_means.proofs.mean_raster.Tie as tie
 
 abbrev Inv-loop : tie.InvT-loop
-Inv-loop rasters size k out₀ by at₀ out at = Stored (λ j. roundedMean k (placeSum rasters size k j)) size out₀ out at
+Inv-loop rasters size k out₀ by at₀ out at = Stored (λ j. nearest (placeSum rasters size k j) k) size out₀ out at
 
 abbrev μ-loop : tie.MeasureT-loop
 μ-loop rasters size k out₀ by at₀ out at = size - at
@@ -67,7 +68,7 @@ loop-again c =
     let L = c .before .before .before .before .before .before .loop in
     let n = c .before .before .before .before .smaller .ensures in
     let inside : L .at + c .before .before .before .before .smaller .result ≤ a .size = omega (arith, n, c .before .before .before .before .before .loop-test .taken) in
-    let front = fill-part (λ j. roundedMean (a .k) (placeSum (now (a .rasters)) (a .size) (a .k) j)) (L .at) _ (now (a .out)) (L .out) _ (L .inv .front) (c .before .before .block .ensures) in
+    let front = fill-part (λ j. nearest (placeSum (now (a .rasters)) (a .size) (a .k) j) (a .k)) (L .at) _ (now (a .out)) (L .out) _ (L .inv .front) (c .before .before .block .ensures) in
     record { so-far = inside; front = front; long = ap length front ∙ length-filled _ _ (now (a .out)) (omega (arith, inside, p .3)) }
 
 same-length : tie.Need-same-length Inv-loop μ-loop

@@ -11,7 +11,7 @@ use Rattle.lists.proofs.Part.{tail-mid}
 use Rattle.lists.proofs.Raster.{row-fits}
 use Rattle.lists.proofs.Sums.{sum-none, sum-more, sum-bound}
 use Rattle.lists.proofs.Tabulate.{tabulate-ext, tabulate-getD, refill}
-use Rattle.background_means.specs.Sums.{placeSum}
+use Rattle.raster_means.specs.Sums.{placeSum}
 
 -- no raster yet, in sums that are 0
 pub sums-none : (rasters : List ℕ) (size at n : ℕ) (sums : List ℕ) → n ≤ length sums → ((u : ℕ) → getD sums u 0 ≡ 0)

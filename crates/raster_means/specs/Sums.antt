@@ -1,5 +1,5 @@
--- Sums and means over rasters that lie one behind the other.
-use Prim.Native.Nat.{ℕ, _+_, _*_, _/_}
+-- Sums over rasters that lie one behind the other.
+use Prim.Native.Nat.{ℕ, _+_, _*_}
 use mathlib.Core.List.{List}
 use lib.ListN.{getD}
 use Rattle.integers.specs.Sum.{sum}
@@ -8,7 +8,3 @@ use Rattle.lists.specs.Tabulate.{tabulate}
 -- the sum of the samples at place j of the first k rasters of `size` samples
 unfoldable pub placeSum : List ℕ → ℕ → ℕ → ℕ → ℕ
 placeSum rasters size k j = sum (tabulate (λ i. getD rasters (i * size + j) 0) k)
-
--- a sum of k samples divided by k, rounded to the nearest, halves up
-unfoldable pub roundedMean : ℕ → ℕ → ℕ
-roundedMean k s = (2 * s + k) / (2 * k)

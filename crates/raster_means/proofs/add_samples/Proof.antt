@@ -1,11 +1,11 @@
--- `background_means::add_samples` meets its contract: what is stored so far, then what was there. Assumes nothing.
+-- `raster_means::add_samples` meets its contract: what is stored so far, then what was there. Assumes nothing.
 use Prim.Native.Nat.{_+_, _-_}
 use mathlib.Core.Path.{_∙_}
 use lib.ListN.{getD}
 use Rattle.lists.proofs.Stored.{Stored, stored-none, stored-more, stored-next, stored-done}
 use borrow.Author.Needs.{needs}
-use Rattle.background_means.proofs.add_samples.Statement.{statement}
-use Rattle.background_means.proofs.add_samples.Tie as tie
+use Rattle.raster_means.proofs.add_samples.Statement.{statement}
+use Rattle.raster_means.proofs.add_samples.Tie as tie
 
 abbrev Inv-loop : tie.InvT-loop
 Inv-loop sums₀ n samples u₀ sums u = Stored (λ k. getD sums₀ k 0 + getD samples k 0) n sums₀ sums u

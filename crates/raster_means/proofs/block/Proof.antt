@@ -1,4 +1,4 @@
--- `background_means::block` meets its contract: the sums, then their means. Assumes nothing.
+-- `raster_means::block` meets its contract: the sums, then their means. Assumes nothing.
 use Prim.Native.Nat.{ℕ, _+_, _*_, _≤_}
 use native.Mathlib.Omega.{arith}
 use mathlib.Core.Path.{_≡_, ap, _∙_}
@@ -6,11 +6,12 @@ use mathlib.Core.List.{List, _++_}
 use lib.ListN.{getD, drop, replicate}
 use denote.Ref.{now}
 use Rattle.lists.proofs.Tabulate.{length-filled, filled-at, tabulate-ext}
-use Rattle.background_means.specs.Sums.{placeSum, roundedMean}
-use Rattle.background_means.proofs.PlaceSums.{sum-le, zeros}
+use Rattle.integers.specs.Divide.{nearest}
+use Rattle.raster_means.specs.Sums.{placeSum}
+use Rattle.raster_means.proofs.PlaceSums.{sum-le, zeros}
 use borrow.Author.Needs.{needs}
-use Rattle.background_means.proofs.block.Statement.{statement}
-use Rattle.background_means.proofs.block.Tie as tie
+use Rattle.raster_means.proofs.block.Statement.{statement}
+use Rattle.raster_means.proofs.block.Tie as tie
 
 -- the sums at first
 abbrev begun : List ℕ
@@ -50,7 +51,7 @@ returns : tie.Need-returns
 returns c =
     let a = c .before .before .before .before .before .before .before .before .before .before .args in
     let e = c .before .before .before .before .before .before .block-sums .ensures in
-    c .before .before .block-means .ensures ∙ ap (λ (l : List ℕ). l ++ drop (a .n) (now (a .out))) (tabulate-ext _ _ (a .n) (λ u b. ap (roundedMean (a .k)) (filled-at _ (a .n) begun _ 0 u e b)))
+    c .before .before .block-means .ensures ∙ ap (λ (l : List ℕ). l ++ drop (a .n) (now (a .out))) (tabulate-ext _ _ (a .n) (λ u b. ap (λ (s : ℕ). nearest s (a .k)) (filled-at _ (a .n) begun _ 0 u e b)))
 
 pub block-spec : {M : Type 1} → statement M
 block-spec =

@@ -1,13 +1,13 @@
--- `background_means::mean` meets its contract. Assumes nothing.
+-- `raster_means::mean` meets its contract. Assumes nothing.
 use Prim.Native.Nat.{ℕ, _+_, _*_, _-_, _/_, _^_, _≤_, _<_}
 use native.Mathlib.Nat.{le-refl, mul-le-mul, div-add-mod, div-lt-iff-lt-mul}
 use native.Mathlib.Omega.{arith}
 use mathlib.Core.Path.{_≡_}
 use Rattle.integers.proofs.Reciprocal.{by-reciprocal}
-use Rattle.background_means.specs.Sums.{roundedMean}
+use Rattle.integers.specs.Divide.{nearest}
 use borrow.Author.Needs.{needs}
-use Rattle.background_means.proofs.mean.Statement.{statement}
-use Rattle.background_means.proofs.mean.Tie as tie
+use Rattle.raster_means.proofs.mean.Statement.{statement}
+use Rattle.raster_means.proofs.mean.Tie as tie
 
 -- what is required
 abbrev Known : ℕ → ℕ → ℕ → Type 0
@@ -39,13 +39,12 @@ cast-result : tie.Need-cast-result
 cast-result c = search needs
 
 mul-result-2 : tie.Need-mul-result-2
-mul-result-2 c = record { fits = small (c .pre) }
+mul-result-2 c = record { fits = omega (arith, small (c .pre)) }
 
 cast-result-2 : tie.Need-cast-result-2
 cast-result-2 c = omega (arith, exact (c .pre), a-byte (c .pre))
 
 returns : tie.Need-returns
-unfolding roundedMean
 returns c = exact (c .pre)
 
 pub mean-spec : {M : Type 1} → statement M

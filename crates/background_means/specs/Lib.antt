@@ -1,2 +1,0 @@
--- Sums and means over slots, definitions only.
-pub mod Sums

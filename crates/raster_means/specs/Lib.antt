@@ -1,0 +1,2 @@
+-- Sums over rasters that lie one behind the other, definitions only.
+pub mod Sums
