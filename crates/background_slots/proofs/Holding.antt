@@ -7,9 +7,13 @@ use Rattle.lists.specs.Tabulate.{tabulate}
 use Rattle.lists.proofs.Sums.{map-tabulate}
 use Rattle.lists.proofs.Tabulate.{length-tabulate}
 use Rattle.answers.specs.declared.Held.{Held}
-use Rattle.background.specs.Background.{stills, numbers}
+use Rattle.background.specs.Background.{stills, numbers, position}
 use Rattle.background.specs.Room.{heldOf}
 use Rattle.background.specs.Memory.{memberIn, backgroundIn}
+
+-- the slot of number n among k stills
+abbrev pub slotOf : ℕ → List ℕ → ℕ → ℕ
+slotOf n labels k = position n (tabulate (λ i. getD labels (2 * i) 0) k)
 
 module _ (h : Held) (rasters labels : List ℕ) where
   pub stills-in : stills (backgroundIn h rasters labels) ≡ h .count

@@ -42,7 +42,8 @@ use Rattle.background.specs.Change.{Outcome, refused, changed, addTests, additi
 use Rattle.background.specs.Mean.{meanTolerance, meanTests, meanAnswer}
 use Rattle.background.specs.Memory.{answerOf}
 use Rattle.told.specs.Numbers.{Told, refusal, values, Tells, stillTold, writtenTold, recipeTold, planeTold, fileTold, changedTold, meanTold}
-use Rattle.capi.specs.Calls.{WritesStill, FiltersPlane, FiltersFile, ChangesBackground, MeansStills}
+use Rattle.capi.specs.Calls.{WritesStill, FiltersPlane, FiltersFile}
+use Rattle.told_background.specs.Calls.{ChangesBackground, MeansStills}
 use Rattle.call_laws.specs.Success.{Success}
 
 -- ---- tests whose numbers are not 0

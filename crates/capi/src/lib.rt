@@ -5,7 +5,8 @@ ghost use Rattle.recipe.specs.Recipe.{recipeOf};
 ghost use Rattle.background.specs.Change.{addition, removal};
 ghost use Rattle.background.specs.Memory.{backgroundIn};
 ghost use Rattle.told.specs.Numbers.{Tells, stillTold, recipeTold, heldIn};
-ghost use Rattle.capi.specs.Calls.{WritesStill, FiltersPlane, FiltersFile, ChangesBackground, MeansStills};
+ghost use Rattle.capi.specs.Calls.{WritesStill, FiltersPlane, FiltersFile};
+ghost use Rattle.told_background.specs.Calls.{ChangesBackground, MeansStills};
 
 // Read a still: width, height, channels, and at which byte the raster begins.
 #[no_mangle]
@@ -93,11 +94,7 @@ pub extern "C" fn hejslopi_background_add(
 ) -> u32
     ensures { λ r. ⌜ ChangesBackground (addition (now (still .entry)) number tolerance (length (now (rasters .entry))) (length (now (labels .entry))) (backgroundIn (heldIn (now (held .entry))) (now (rasters .entry)) (now (labels .entry)))) (now (rasters .entry)) (now (rasters .exit)) (now (labels .entry)) (now (labels .exit)) (now (held .entry)) (now (held .exit)) r ⌝ }
 {
-    let holds = told::held(held);
-    told::changed(
-        background_changes::add_still(holds, still, number, tolerance, rasters, labels),
-        held,
-    )
+    told_background::add(still, number, tolerance, rasters, labels, held)
 }
 
 // Remove the still of a number from a background: what is held is updated.
@@ -110,11 +107,7 @@ pub extern "C" fn hejslopi_background_remove(
 ) -> u32
     ensures { λ r. ⌜ ChangesBackground (removal number (length (now (rasters .entry))) (length (now (labels .entry))) (backgroundIn (heldIn (now (held .entry))) (now (rasters .entry)) (now (labels .entry)))) (now (rasters .entry)) (now (rasters .exit)) (now (labels .entry)) (now (labels .exit)) (now (held .entry)) (now (held .exit)) r ⌝ }
 {
-    let holds = told::held(held);
-    told::changed(
-        background_changes::remove_still(holds, number, rasters, labels),
-        held,
-    )
+    told_background::remove(number, rasters, labels, held)
 }
 
 // The mean of a background: of how many stills, T and the output's length.
@@ -128,9 +121,5 @@ pub extern "C" fn hejslopi_background_mean(
 ) -> u32
     ensures { λ r. ⌜ MeansStills (backgroundIn (heldIn (now (held .entry))) (now (rasters .entry)) (now (labels .entry))) (now (rasters .entry)) (now (labels .entry)) (now (out .entry)) (now (out .exit)) (now (result .entry)) (now (result .exit)) r ⌝ }
 {
-    let holds = told::held(held);
-    told::mean(
-        background_mean::mean_still(holds, rasters, labels, out),
-        result,
-    )
+    told_background::mean(rasters, labels, held, out, result)
 }

@@ -2,7 +2,6 @@
 // says how much of 4,096 bytes and 4,096 numbers is lent from there on.
 use answers::Changed;
 use answers::Held;
-use answers::Mean;
 use trial::files;
 ghost use Prim.Native.Nat.{_≤_};
 ghost use lib.ListN.{length};
@@ -36,28 +35,11 @@ fn number(line: &[u8], k: usize) -> u32 {
     (words::number(line, k) % 4294967296) as u32
 }
 
-// A hexadecimal digit.
-fn digit(n: u8) -> u8 {
-    if n < 10 {
-        return n % 16 + 48;
-    }
-    n % 16 + 87
-}
-
-// Bytes as pairs of hexadecimal digits.
-fn show_hex(bytes: &[u8]) {
-    let mut i = 0;
-    while i < bytes.len() {
-        printing::text(&[digit(bytes[i] / 16), digit(bytes[i] % 16)]);
-        i += 1;
-    }
-}
-
 // The still of a file added.
 fn add(folder: &[u8], line: &[u8], held: Held, rasters: &mut [u8], labels: &mut [u32]) -> Changed {
     let mut still = io::buffer();
     let n = files::load(folder, &line[words::after(line, 3)..], 0, &mut still);
-    background_changes::add_still(
+    background_additions::add_still(
         held,
         &still[..n],
         number(line, 1),
@@ -78,41 +60,13 @@ fn change(
     if letter(line) == b'a' {
         return add(folder, line, held, rasters, labels);
     }
-    background_changes::remove_still(held, number(line, 1), rasters, labels)
-}
-
-// Prints what a change answers. What is held after it.
-fn show_change(answer: Changed, held: Held) -> Held {
-    match answer {
-        Changed::Refused(n) => {
-            printing::refusal(n);
-            held
-        }
-        Changed::Holds(now) => {
-            printing::text(b"ok");
-            now
-        }
-    }
-}
-
-// Prints what a mean answers.
-fn show_answer(answer: Mean, out: &[u8]) {
-    match answer {
-        Mean::Refused(n) => printing::refusal(n),
-        Mean::NoStills => printing::text(b"none"),
-        Mean::Of { tolerance, len, .. } => {
-            printing::text(b"mean");
-            printing::number(tolerance);
-            printing::text(b" ");
-            show_hex(&out[..integers::smaller(len, out.len())]);
-        }
-    }
+    background_removals::remove_still(held, number(line, 1), rasters, labels)
 }
 
 // A mean with this output.
 fn mean_on(held: Held, rasters: &[u8], labels: &[u32], out: &mut [u8]) {
     let answer = background_mean::mean_still(held, rasters, labels, out);
-    show_answer(answer, out);
+    script_answers::show_mean(answer, out);
 }
 
 // A mean with an output of as many bytes as its line says.
@@ -127,7 +81,7 @@ fn step(folder: &[u8], line: &[u8], held: Held, rasters: &mut [u8], labels: &mut
         show_mean(line, held, rasters, labels);
         return held;
     }
-    show_change(change(folder, line, held, rasters, labels), held)
+    script_answers::show_change(change(folder, line, held, rasters, labels), held)
 }
 
 // A line of the script, and what is held after it.

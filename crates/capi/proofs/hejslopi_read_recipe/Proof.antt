@@ -1,6 +1,6 @@
 -- `capi::hejslopi_read_recipe` meets its contract. Assumes nothing.
 use Rattle.told.specs.Numbers.{recipeTold}
-use Rattle.capi.proofs.Telling.{told}
+use Rattle.told.proofs.Alike.{told}
 use borrow.Author.Needs.{needs}
 use Rattle.capi.proofs.hejslopi_read_recipe.Statement.{statement}
 use Rattle.capi.proofs.hejslopi_read_recipe.Tie as tie

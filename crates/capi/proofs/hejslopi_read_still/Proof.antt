@@ -1,6 +1,6 @@
 -- `capi::hejslopi_read_still` meets its contract. Assumes nothing.
 use Rattle.told.specs.Numbers.{stillTold}
-use Rattle.capi.proofs.Telling.{told}
+use Rattle.told.proofs.Alike.{told}
 use borrow.Author.Needs.{needs}
 use Rattle.capi.proofs.hejslopi_read_still.Statement.{statement}
 use Rattle.capi.proofs.hejslopi_read_still.Tie as tie

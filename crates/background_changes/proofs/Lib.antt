@@ -1,3 +1,0 @@
-pub mod Tests
-pub mod Added
-pub mod Removed

@@ -1,0 +1,2 @@
+-- The calls on a background with their answers told, definitions only.
+pub mod Calls
