@@ -68,9 +68,9 @@ two = add 8 300 2 (11 ∷ 255 ∷ []) one
 unfoldable pub three : Background
 three = add 9 200 2 (13 ∷ 0 ∷ []) two
 
--- as many stills as may be held
-unfoldable pub thousand : Background
-thousand = record { width = 2; height = 1; channels = 1; members = replicate 1000 (member 0 0 (0 ∷ 0 ∷ [])) }
+-- a background of n stills of two samples
+unfoldable pub many : ℕ → Background
+many n = record { width = 2; height = 1; channels = 1; members = replicate n (member 0 0 (0 ∷ 0 ∷ [])) }
 
 -- what is held, by value
 unfoldable pub holding : ℕ → ℕ → ℕ → ℕ → Held
@@ -112,7 +112,8 @@ rows =
     ∷ row "a removal needs room for all that is held" (refusal (removal 9 5 6 three) ∷ refusal (removal 9 6 5 three) ∷ refusal (removal 9 6 6 three) ∷ []) (20 ∷ 20 ∷ 0 ∷ [])
     ∷ row "an emptied background takes another size" (mean (add 5 0 3 (1 ∷ 2 ∷ 3 ∷ []) (remove 7 one))) (32768 ∷ 1 ∷ 2 ∷ 3 ∷ [])
     ∷ row "T is cut to 255 levels" (mean (add 5 16678912 1 (4 ∷ []) empty) ++ mean (add 5 16678913 1 (4 ∷ []) empty) ++ mean (add 5 4294967295 1 (4 ∷ []) empty)) (16711680 ∷ 4 ∷ 16711680 ∷ 4 ∷ 16711680 ∷ 4 ∷ [])
-    ∷ row "a thousand are held: the size comes before that, room behind it" (refusal (adding 2000 2000 1000 0 2 (0 ∷ 0 ∷ []) thousand) ∷ refusal (adding 2000 2000 1000 0 1 (0 ∷ []) thousand) ∷ []) (25 ∷ 24 ∷ [])
+    ∷ row "width, height and channels have to be those held" (map (λ h. cond (suits 2 1 1 h) 1 0) (holding 1 2 1 1 ∷ holding 1 3 1 1 ∷ holding 1 2 2 1 ∷ holding 1 2 1 3 ∷ holding 0 3 2 3 ∷ [])) (1 ∷ 0 ∷ 0 ∷ 0 ∷ 1 ∷ [])
+    ∷ row "the thousandth still is taken, the next is not: the size comes before that, room behind it" (refusal (adding 2000 2000 5 0 2 (0 ∷ 0 ∷ []) (many 999)) ∷ refusal (adding 2000 2000 5 0 2 (0 ∷ 0 ∷ []) (many 1000)) ∷ refusal (adding 2000 2000 5 0 1 (0 ∷ []) (many 1000)) ∷ []) (0 ∷ 25 ∷ 24 ∷ [])
     ∷ row "a still that cannot be read is refused before all else" (refusal (additionOf (Still.Refused 5) [] 8 0 0 0 three) ∷ []) (5 ∷ [])
     ∷ row "numbers of more than 16 bits have no room, where there are stills" (map (λ h. cond (heldRoom h 99999 99999) 1 0) (holding 1 65535 1 1 ∷ holding 1 65536 1 1 ∷ holding 0 65536 1 1 ∷ [])) (1 ∷ 0 ∷ 1 ∷ [])
     ∷ row "none are held, whatever is lent" (answered (meanAnswer 0 0 0 empty)) []
@@ -124,7 +125,7 @@ rows =
 
 -- every definition that an example runs through, opened by one name
 opened : Unit {0}
-unfolding sum tabulate largest isSpace gap isDigit digits valueFrom value fieldAfter field headerOf heightField maximumField header isSide channelsOf headerTests magicTest pictureOf stillOf position present roomFor smallNumbers heldRoom suits addTests addition removeTests without removal meanOf samplesAt meanRaster meanTolerance meanTests meanAnswer slot memberIn backgroundIn outcome history except survivors commonDenominator exactTotal row adding add remove refusal answered mean one two three thousand holding listed still come-and-gone part parts
+unfolding sum tabulate largest isSpace gap isDigit digits valueFrom value fieldAfter field headerOf heightField maximumField header isSide channelsOf headerTests magicTest pictureOf stillOf position present roomFor smallNumbers heldRoom suits addTests addition removeTests without removal meanOf samplesAt meanRaster meanTolerance meanTests meanAnswer slot memberIn backgroundIn outcome history except survivors commonDenominator exactTotal row adding add remove refusal answered mean one two three many holding listed still come-and-gone part parts
 opened = tt
 
 -- THE WORKED EXAMPLES HOLD, by computation
