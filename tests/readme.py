@@ -168,7 +168,8 @@ def from_viewer(tally, room):
     _, number = command_of(lines, "    print(")
     _, mean = command_of(lines, "raster, T = background.mean()")
     samples, tolerance = (found(pattern, mean, "mean of a background") for pattern in (r"^((?:[0-9A-F]{2} ?)+),", r"and (\d+);"))
-    body = printed(text, "import hejslopi") + lines + ["print(raster.hex(' ').upper(), T)", "print(shown[:-3], shown[-3:] == raster)"]
+    shown = found(r"`(hejslopi\.write_still\(.*?\))` makes", text, "a still of the mean")
+    body = printed(text, "import hejslopi") + lines + ["print(raster.hex(' ').upper(), T)", "shown = " + shown, "print(shown[:-3], shown[-3:] == raster)"]
     written(os.path.join(room, "viewer.py"), "\n".join(body).encode())
     answer = says("%s viewer.py" % shlex.quote(sys.executable), room, PYTHONPATH="python")
     tally.equal("the viewer in Python", answer, (0, "%s\n%s %s\n%r True\n" % (number, samples, tolerance, program.STILL[:-3])))

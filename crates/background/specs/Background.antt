@@ -11,7 +11,7 @@ pub record Member : Type 0 where
   pub tolerance : ℕ
   pub raster : List ℕ
 
--- with these
+-- the still of this number, T and raster
 abbrev pub member : ℕ → ℕ → List ℕ → Member
 member n T s = record { number = n; tolerance = T; raster = s }
 

@@ -247,7 +247,7 @@ as-if-mean {rasters} {labels} {out} {out′} {answer} b b′ s m =
       output = m .output ∙ ap (λ (a : Mean). meanOutput a b out) (m .answered) ∙ s .output (length rasters) (length labels) out ∙ ap (λ (a : Mean). meanOutput a b′ out) (sym is);
     }
 
--- a mean's answer and output are those of the history, and those of the stills left, as if those refused and those removed had never come
+-- a mean's answer and output are those of the history, and those of the survivors by themselves: nothing refused or removed has a part in them
 pub record KeptMean (os : List Operation) (rasters labels out out′ : List ℕ) (answer : Mean) : Type 0 where
   pub as-defined : Means (history os empty) rasters labels out out′ answer
   pub as-if : Means (history (map adds (survivors os empty [])) empty) rasters labels out out′ answer
