@@ -2,14 +2,17 @@
 """peers.py [FILE]: times OpenCV and SciPy on the work of rust/examples/benchmark.rs, where they are installed, and NumPy on the mean of a background.
 
 It writes a line for each: work, size, peer, nanoseconds a sample (best of several runs, one thread, buffers warm), and `=` where
-the peer's samples are those of document 01 on this picture, `~` where some differ, with tabs between. On standard error it says
+all the peer's samples are those of document 01 on this picture, `~` where some differ, with tabs between. On standard error it says
 how many differ and by how much. The same arithmetic, whatever the picture: boxes (an odd area never gives a half), ranks and outlines.
 Only a similar one: stages of weights, for neither peer rounds weights to 65,536ths and row values to 64ths. Binomials of 3x3 and
 5x5 lose nothing by either, so their samples agree. SciPy is handed binary64 and its result is rounded here. A chain has both.
+Ranks have more rows, by window, position and picture (`rank 7x7 p 25 noise`): shorter measured, with SciPy at the small size alone, and compared in all
+their samples too.
 
     python3 python/peers.py FILE && cd rust && cargo run --release --example benchmark -- FILE
 """
 import functools
+import itertools
 import math
 import sys
 import time
@@ -32,12 +35,60 @@ SIZES = [(96, 72), (1024, 768)]
 # How many stills a background has.
 KEPT = 100
 
+# How many seconds a cell is measured, where its runs are not too long for that; the second for the many rows of ranks.
+LONG, SHORT = 0.5, 0.15
+
+# Pictures. The benchmark makes the same samples, in whole numbers like these.
+
 
 def picture(w, h):
-    """The samples that the benchmark makes too."""
+    """The usual picture."""
     x = (numpy.arange(w * h, dtype=numpy.uint64) * 2654435761 & 0xFFFFFFFF).astype(numpy.uint64)
     x = (x ^ x >> 15) * 2246822519 & 0xFFFFFFFF
     return (x >> 24).astype(numpy.uint8).reshape(h, w)
+
+
+def random(w, h):
+    """The numbers of splitmix64 that begins with 0, one for each place."""
+    z = numpy.arange(1, w * h + 1, dtype=numpy.uint64) * 0x9E3779B97F4A7C15
+    z = (z ^ z >> 30) * 0xBF58476D1CE4E5B9
+    z = (z ^ z >> 27) * 0x94D049BB133111EB
+    return (z ^ z >> 31).reshape(h, w)
+
+
+def noise(w, h):
+    """Every sample at random."""
+    return (random(w, h) >> 56).astype(numpy.uint8)
+
+
+# Ellipses that lie on the bed: the middle of each across and down, its radii, and how much lighter it is. Lengths are in 4,096ths of the frame.
+OBJECTS = [
+    (1500, 2300, 900, 500, 55),
+    (2900, 1300, 350, 600, -50),
+    (2048, 3600, 1900, 90, 40),
+    (700, 700, 160, 160, -35),
+    (3300, 3000, 240, 200, 70),
+]
+
+
+def bed(w, h):
+    """Like a still of a bed: lighter in the middle than in the corners, with a few objects' edges, and a sensor's noise of at most three levels."""
+    u = numpy.arange(w, dtype=numpy.int64) * 4096 // w
+    v = numpy.arange(h, dtype=numpy.int64)[:, None] * 4096 // h
+    level = 150 - ((u - 2048) ** 2 + (v - 2048) ** 2) // 131072
+    for x, y, r, s, lighter in OBJECTS:
+        level += lighter * (((u - x) * s) ** 2 + ((v - y) * r) ** 2 <= (r * s) ** 2)
+    bits = (random(w, h) >> 60).astype(numpy.int64)
+    return (level + (bits >> 2) + (bits & 3) - 3).astype(numpy.uint8)
+
+
+# How each picture is called, how it is made, and the checksum of it in all sizes, which the benchmark has too.
+PICTURES = [("usual", picture, 39427188518567), ("noise", noise, 39434502244458), ("bed", bed, 42140440107691)]
+
+
+def checksum(make):
+    """Of a picture in all sizes: every sample times its place from 1, added up."""
+    return sum(int((numpy.arange(1, w * h + 1) * make(w, h).reshape(-1)).sum()) for w, h in SIZES)
 
 
 # Taps of one axis as (numerators, denominator), at offsets that are symmetric about 0. Both axes have the same.
@@ -59,16 +110,31 @@ KERNELS = [
     [[-1, -1, 0], [-1, 0, 1], [0, 1, 1]],
 ]
 
-# A stage: ("weights", taps), ("box", radius), ("median", radius), ("outline", kernels)
+
+def area(r):
+    """How many samples a square window has."""
+    return (2 * r + 1) ** 2
+
+
+def middle(r):
+    """The position of the median."""
+    return area(r) // 2 + 1
+
+
+def median(r):
+    return "rank", (r, middle(r))
+
+
+# A stage: ("weights", taps), ("box", radius), ("rank", (radius, position)), ("outline", kernels)
 EIGHT = [
     ("weights", binomial(1)),
     ("box", 1),
-    ("median", 1),
+    median(1),
     ("weights", SHARPER),
     ("weights", QUARTERS),
     ("weights", binomial(2)),
     ("box", 7),
-    ("median", 3),
+    median(3),
 ]
 WORK = [
     ("binomial 3x3", [("weights", binomial(1))]),
@@ -78,12 +144,16 @@ WORK = [
     ("box 3x3", [("box", 1)]),
     ("box 15x15", [("box", 7)]),
     ("box 31x31", [("box", 15)]),
-    ("rank 3x3", [("median", 1)]),
-    ("rank 7x7", [("median", 3)]),
-    ("rank 31x31", [("median", 15)]),
+    ("rank 3x3", [median(1)]),
+    ("rank 7x7", [median(3)]),
+    ("rank 15x15", [median(7)]),
+    ("rank 31x31", [median(15)]),
     ("outline", [("outline", KERNELS)]),
     ("eight stages", EIGHT),
 ]
+
+# The windows of the table of ranks, by their radius across and down.
+RADII = [1, 3, 7, 15]
 
 
 def units(taps):
@@ -106,9 +176,27 @@ def strongest(sums):
     return functools.reduce(numpy.maximum, map(numpy.abs, sums)).clip(0, 255).astype(numpy.uint8)
 
 
+def ranked(x, r, positions):
+    """Document 01's ranks at some positions, with the nearest border: a plane for each. The sample at position p is the number of levels up to which the
+    window has fewer than p samples. Level by level these are counted, for all positions at once, and no window takes longer than another."""
+    side = 2 * r + 1
+    padded = numpy.pad(x, ((r + 1, r), (r + 1, r)), mode="edge")
+    planes = [numpy.zeros(x.shape, numpy.uint8) for _ in positions]
+    for level in range(255):
+        # the sums may wrap around: their differences are at most 961
+        down = numpy.cumsum(padded <= level, axis=0, dtype=numpy.uint16)
+        across = numpy.cumsum(down[side:] - down[:-side], axis=1, dtype=numpy.uint16)
+        count = across[:, side:] - across[:, :-side]
+        for plane, p in zip(planes, positions):
+            plane += count < p
+    return planes
+
+
 def document_01(stage, x):
-    """A stage as document 01 has it, with the nearest border, in whole numbers. A median is sorted out in rows, to spare memory."""
+    """A stage as document 01 has it, with the nearest border, in whole numbers."""
     kind, what = stage
+    if kind == "rank":
+        return ranked(x, what[0], [what[1]])[0]
     h, w = x.shape
     r = len(what[0]) // 2 if kind in ("weights", "outline") else what
     padded = numpy.pad(x.astype(numpy.int64), r, mode="edge")
@@ -124,11 +212,18 @@ def document_01(stage, x):
         return ((2 * total + side * side) // (2 * side * side)).astype(numpy.uint8)
     if kind == "outline":
         return strongest(sum(kernel[j][i] * padded[j:j + h, i:i + w] for j in range(side) for i in range(side)) for kernel in what)
-    if kind != "median":
-        unknown(kind)
-    windows = numpy.lib.stride_tricks.sliding_window_view(padded.astype(numpy.uint8), (side, side))
-    middle = side * side // 2
-    return numpy.stack([numpy.partition(row.reshape(w, -1), middle, axis=1)[:, middle] for row in windows])
+    unknown(kind)
+
+
+def rank_by_opencv(r, p):
+    """medianBlur for the median; erode for the first position and dilate for the last, with all of a square. medianBlur's border is always the nearest;
+    erode and dilate leave out what lies outside unless they are told of a border."""
+    side = 2 * r + 1
+    if p == middle(r):
+        return lambda x: cv2.medianBlur(x, side)
+    run = {1: cv2.erode, area(r): cv2.dilate}.get(p) or unknown("rank at %d" % p)
+    square = numpy.ones((side, side), numpy.uint8)
+    return lambda x: run(x, square, borderType=cv2.BORDER_REPLICATE)
 
 
 def by_opencv(stage):
@@ -137,8 +232,8 @@ def by_opencv(stage):
     if kind == "box":
         side = (2 * what + 1, 2 * what + 1)
         return lambda x: cv2.blur(x, side, borderType=edge)
-    if kind == "median":
-        return lambda x: cv2.medianBlur(x, 2 * what + 1)
+    if kind == "rank":
+        return rank_by_opencv(*what)
     if kind == "outline":
         kernels = [numpy.array(kernel, numpy.float32) for kernel in what]
         # Magnitude and saturation are one pass of OpenCV's. No order is lost by it, so the maximum may come last, and is of bytes.
@@ -152,6 +247,12 @@ def by_opencv(stage):
     return lambda x: cv2.sepFilter2D(x, -1, taps, taps, borderType=edge)
 
 
+def rank_by_scipy(r, p):
+    """The fastest that SciPy has: the filters of the smallest and the largest go along each axis by itself, rank_filter looks at whole windows."""
+    run = {1: ndimage.minimum_filter, middle(r): ndimage.median_filter, area(r): ndimage.maximum_filter}.get(p) or unknown("rank at %d" % p)
+    return lambda x: run(x, 2 * r + 1, mode="nearest")
+
+
 def by_scipy(stage):
     kind, what = stage
     if kind == "box":
@@ -162,8 +263,8 @@ def by_scipy(stage):
             return numpy.floor(mean + 0.5).astype(numpy.uint8)
 
         return box
-    if kind == "median":
-        return lambda x: ndimage.median_filter(x, 2 * what + 1, mode="nearest")
+    if kind == "rank":
+        return rank_by_scipy(*what)
     if kind == "outline":
         return lambda x: strongest(ndimage.correlate(x, kernel, output=numpy.int16, mode="nearest") for kernel in what)
     if kind != "weights":
@@ -198,9 +299,10 @@ def chain(stages):
     return run
 
 
-def best(run):
+def best(run, seconds):
+    """The best time of one run in nanoseconds, of at least three and for about so many seconds."""
     result, start, runs = math.inf, time.perf_counter(), 0
-    while runs < 3 or (time.perf_counter() - start < 0.5 and runs < 10000):
+    while runs < 3 or (time.perf_counter() - start < seconds and runs < 10000):
         before = time.perf_counter_ns()
         run()
         result = min(result, time.perf_counter_ns() - before)
@@ -210,40 +312,70 @@ def best(run):
     return result
 
 
-def main():
-    out = open(sys.argv[1], "w") if len(sys.argv) > 1 else sys.stdout
-    peers = [(name, make) for name, there, make in (("opencv", cv2, by_opencv), ("scipy", ndimage, by_scipy)) if there]
+PEERS = [(name, make) for name, there, make in (("opencv", cv2, by_opencv), ("scipy", ndimage, by_scipy)) if there]
 
-    def say(work, w, h, peer, run, given, wanted, samples, stills=1):
-        got = samples(run(given))
-        apart = numpy.abs(got.astype(int) - wanted.astype(int))
-        sign = "~" if apart.any() else "="
-        print("%s\t%dx%d\t%s\t%.2f\t%s" % (work, w, h, peer, best(lambda: run(given)) / (w * h * stills), sign), file=out, flush=True)
-        print("%s %dx%d %s: %d samples differ, by at most %d" % (work, w, h, peer, (apart > 0).sum(), apart.max()), file=sys.stderr)
 
+def tell(out, work, peer, run, given, wanted, seconds=LONG, samples=lambda y: y, stills=1):
+    """Times a peer's run, whose answer has some samples, and compares all of these with what is wanted."""
+    h, w = wanted.shape
+    apart = numpy.abs(samples(run(given)).astype(int) - wanted.astype(int))
+    sign = "~" if apart.any() else "="
+    nanoseconds = best(lambda: run(given), seconds) / (w * h * stills)
+    print("%s\t%dx%d\t%s\t%.2f\t%s" % (work, w, h, peer, nanoseconds, sign), file=out, flush=True)
+    print("%s %dx%d %s: %d samples differ, by at most %d" % (work, w, h, peer, (apart > 0).sum(), apart.max()), file=sys.stderr)
+
+
+def tell_stages(out):
     for work, stages in WORK:
         for w, h in SIZES:
             x = picture(w, h)
             wanted = chain([lambda x, s=s: document_01(s, x) for s in stages])(x)
-            for peer, make in peers:
-                say(work, w, h, peer, chain([make(s) for s in stages]), x, wanted, lambda y: y)
-    if cv2:
-        for w, h in SIZES:
-            x = picture(w, h)
-            filtered = by_opencv(("weights", binomial(1)))
+            for peer, make in PEERS:
+                tell(out, work, peer, chain([make(s) for s in stages]), x, wanted)
 
-            def file(data):
-                y = filtered(cv2.imdecode(numpy.frombuffer(data, numpy.uint8), cv2.IMREAD_GRAYSCALE))
-                return cv2.imencode(".pgm", y)[1]
 
-            def samples(data):
-                return data.reshape(-1)[-w * h:].reshape(h, w)
+def tell_ranks(out):
+    """At the large size without SciPy, whose median takes 10 microseconds a sample with the largest window."""
+    for r, (name, make, _), (w, h) in itertools.product(RADII, PICTURES, SIZES):
+        x = make(w, h)
+        positions = [1, middle(r), area(r)]
+        for p, wanted in zip(positions, ranked(x, r, positions)):
+            work = "rank %dx%d p %d %s" % (2 * r + 1, 2 * r + 1, p, name)
+            for peer, by in PEERS:
+                if peer != "scipy" or (w, h) == SIZES[0]:
+                    tell(out, work, peer, by(("rank", (r, p))), x, wanted, SHORT)
 
-            still = b"P5\n%d %d\n255\n" % (w, h) + x.tobytes()
-            say("file, bin. 3x3", w, h, "opencv", file, still, document_01(("weights", binomial(1)), x), samples)
+
+def tell_files(out):
+    filtered = by_opencv(("weights", binomial(1)))
+
+    def file(data):
+        y = filtered(cv2.imdecode(numpy.frombuffer(data, numpy.uint8), cv2.IMREAD_GRAYSCALE))
+        return cv2.imencode(".pgm", y)[1]
+
+    for w, h in SIZES:
+        x = picture(w, h)
+        still = b"P5\n%d %d\n255\n" % (w, h) + x.tobytes()
+        wanted = document_01(("weights", binomial(1)), x)
+        tell(out, "file, bin. 3x3", "opencv", file, still, wanted, samples=lambda data: data.reshape(-1)[-wanted.size:].reshape(wanted.shape))
+
+
+def tell_background(out):
     w, h = SIZES[0]
     stills = picture(w, KEPT * h).reshape(KEPT, h, w)
-    say("background mean", w, h, "numpy", mean_by_numpy, stills, mean_in_whole_numbers(stills), lambda y: y, KEPT)
+    tell(out, "background mean", "numpy", mean_by_numpy, stills, mean_in_whole_numbers(stills), stills=KEPT)
+
+
+def main():
+    for name, make, wanted in PICTURES:
+        if checksum(make) != wanted:
+            sys.exit("benchmark: %s: not the picture of benchmark.rs" % name)
+    out = open(sys.argv[1], "w") if len(sys.argv) > 1 else sys.stdout
+    tell_stages(out)
+    tell_ranks(out)
+    if cv2:
+        tell_files(out)
+    tell_background(out)
 
 
 main()

@@ -1,4 +1,5 @@
-//! benchmark [PEERS]: tables in nanoseconds, a sample or a call, best of several runs, one thread, buffers warm.
+//! benchmark [PEERS]: tables in nanoseconds, a sample or a call, best of several runs, one thread, buffers warm: of all stages, of ranks by window, picture and
+//! position, of medians by their radii, of a background, of reading recipes.
 //! Run it by `cargo run --release --example benchmark`. PEERS is a file that `python/peers.py` wrote; without it those columns are empty.
 #[path = "../tests/reference/mod.rs"]
 mod reference;
@@ -9,28 +10,102 @@ use std::collections::HashMap;
 use std::hint::black_box;
 use std::time::{Duration, Instant};
 
-const SIZES: [(usize, usize); 2] = [(96, 72), (1024, 768)];
+/// Width and height.
+type Size = (usize, usize);
 
-/// The samples that peers.py makes too.
-fn picture(count: usize) -> Vec<u8> {
+const SIZES: [Size; 2] = [(96, 72), (1024, 768)];
+
+// Pictures. peers.py makes the same samples, in whole numbers like these.
+
+/// Makes the samples of a picture from its width and height.
+type Make = fn(usize, usize) -> Vec<u8>;
+
+/// How each picture is called, how it is made, and the checksum of it in all sizes, which peers.py has too.
+const PICTURES: [(&str, Make, u64); 3] = [
+    ("usual", picture, 39427188518567),
+    ("noise", noise, 39434502244458),
+    ("bed", bed, 42140440107691),
+];
+
+/// The usual picture.
+fn picture(w: usize, h: usize) -> Vec<u8> {
     let byte = |k: usize| {
         let x = (k as u32).wrapping_mul(2654435761);
         ((x ^ x >> 15).wrapping_mul(2246822519) >> 24) as u8
     };
-    (0..count).map(byte).collect()
+    (0..w * h).map(byte).collect()
 }
 
+/// The number at place k of splitmix64 that begins with 0.
+fn random(k: usize) -> u64 {
+    let z = (k as u64 + 1).wrapping_mul(0x9E3779B97F4A7C15);
+    let z = (z ^ z >> 30).wrapping_mul(0xBF58476D1CE4E5B9);
+    let z = (z ^ z >> 27).wrapping_mul(0x94D049BB133111EB);
+    z ^ z >> 31
+}
+
+/// Every sample at random.
+fn noise(w: usize, h: usize) -> Vec<u8> {
+    (0..w * h).map(|k| (random(k) >> 56) as u8).collect()
+}
+
+/// Ellipses that lie on the bed: the middle of each across and down, its radii, and how much lighter it is. Lengths are in 4,096ths of the frame.
+const OBJECTS: [[i64; 5]; 5] = [
+    [1500, 2300, 900, 500, 55],
+    [2900, 1300, 350, 600, -50],
+    [2048, 3600, 1900, 90, 40],
+    [700, 700, 160, 160, -35],
+    [3300, 3000, 240, 200, 70],
+];
+
+/// Like a still of a bed: lighter in the middle than in the corners, with a few objects' edges, and a sensor's noise of at most three levels.
+fn bed(w: usize, h: usize) -> Vec<u8> {
+    let sample = |k: usize| {
+        let (u, v) = ((k % w * 4096 / w) as i64, (k / w * 4096 / h) as i64);
+        let shade = 150 - ((u - 2048).pow(2) + (v - 2048).pow(2)) / 131072;
+        let lighter = |&[x, y, r, s, by]: &[i64; 5]| {
+            by * i64::from(((u - x) * s).pow(2) + ((v - y) * r).pow(2) <= (r * s).pow(2))
+        };
+        let objects: i64 = OBJECTS.iter().map(lighter).sum();
+        let grain = (random(k) >> 62) + (random(k) >> 60 & 3);
+        (shade + objects + grain as i64 - 3) as u8
+    };
+    (0..w * h).map(sample).collect()
+}
+
+/// The checksum of a picture in all sizes: every sample times its place from 1, added up.
+fn checksum(make: Make) -> u64 {
+    let weighed = |samples: Vec<u8>| -> u64 { (1..).zip(samples).map(|(k, x)| k * x as u64).sum() };
+    SIZES.map(|(w, h)| weighed(make(w, h))).iter().sum()
+}
+
+// Times.
+
+/// How long a cell is measured, where its runs are not too long for that.
+const LONG: Duration = Duration::from_millis(500);
+/// The same in the tables of ranks, which have many cells.
+const SHORT: Duration = Duration::from_millis(150);
+
 /// The best time of one run, of at least three and for about half a second.
-fn best(mut run: impl FnMut()) -> Duration {
-    best_after(|| (), |()| run())
+fn best(run: impl FnMut()) -> Duration {
+    best_for(LONG, run)
+}
+
+/// The same for another while.
+fn best_for(span: Duration, mut run: impl FnMut()) -> Duration {
+    best_after(span, || (), |()| run())
 }
 
 /// The same of a run that something is made for each time, which does not count.
-fn best_after<T>(mut make: impl FnMut() -> T, mut run: impl FnMut(&mut T)) -> Duration {
+fn best_after<T>(
+    span: Duration,
+    mut make: impl FnMut() -> T,
+    mut run: impl FnMut(&mut T),
+) -> Duration {
     let mut best = Duration::MAX;
     let start = Instant::now();
     let mut runs = 0;
-    while runs < 3 || (start.elapsed() < Duration::from_millis(500) && runs < 100_000) {
+    while runs < 3 || (start.elapsed() < span && runs < 100_000) {
         let mut made = make();
         let before = Instant::now();
         run(&mut made);
@@ -41,6 +116,51 @@ fn best_after<T>(mut make: impl FnMut() -> T, mut run: impl FnMut(&mut T)) -> Du
         }
     }
     best
+}
+
+/// Nanoseconds a sample.
+fn each(time: Duration, (w, h): Size) -> f64 {
+    time.as_nanos() as f64 / (w * h) as f64
+}
+
+fn named((w, h): Size) -> String {
+    format!("{w}x{h}")
+}
+
+/// The library's time for a recipe of one stage on a plane, and its samples.
+fn on_plane(recipe: &[u8], (w, h): Size, plane: &[u8], span: Duration) -> (Duration, Vec<u8>) {
+    let mut room = hejslopi::Room::new(hejslopi::needs(recipe, w, h).unwrap());
+    let mut out = vec![0; w * h];
+    let time = best_for(span, || {
+        hejslopi::filter_plane_into(recipe, w, h, plane, room.lend(), &mut out).unwrap();
+    });
+    (time, out)
+}
+
+/// The library's time for any recipe on a file, and the file that it writes.
+fn on_file(recipe: &[u8], (w, h): Size, still: &[u8]) -> (Duration, Vec<u8>) {
+    let mut room = hejslopi::Room::new(hejslopi::needs(recipe, w, h).unwrap());
+    let mut out = vec![0; still.len()];
+    let time = best(|| {
+        hejslopi::filter_file_into(recipe, still, room.lend(), &mut out).unwrap();
+    });
+    (time, out)
+}
+
+// Recipes.
+
+/// How many samples a window has.
+fn area(r: u8, s: u8) -> u16 {
+    (2 * r as u16 + 1) * (2 * s as u16 + 1)
+}
+
+/// A rank with the nearest border, and nothing else.
+fn rank(r: u8, s: u8, p: u16) -> Vec<u8> {
+    [&[1, 5, 1, 0, r, s][..], &p.to_be_bytes()].concat()
+}
+
+fn median(r: u8, s: u8) -> Vec<u8> {
+    rank(r, s, area(r, s) / 2 + 1)
 }
 
 /// Ratios at offsets -15 to 15 on both axes: 1 2 3 .. 16 .. 3 2 1 over 256.
@@ -82,9 +202,10 @@ fn recipes() -> Vec<(&'static str, Vec<u8>)> {
         ("box 3x3", one(&[4, 1, 0, 1, 1])),
         ("box 15x15", one(&[4, 1, 0, 7, 7])),
         ("box 31x31", one(&[4, 1, 0, 15, 15])),
-        ("rank 3x3", one(&[5, 1, 0, 1, 1, 0, 5])),
-        ("rank 7x7", one(&[5, 1, 0, 3, 3, 0, 25])),
-        ("rank 31x31", one(&[5, 1, 0, 15, 15, 1, 225])),
+        ("rank 3x3", median(1, 1)),
+        ("rank 7x7", median(3, 3)),
+        ("rank 15x15", median(7, 7)),
+        ("rank 31x31", median(15, 15)),
         ("outline", one(&[6, 1, 0])),
         ("eight stages", eight),
     ]
@@ -114,6 +235,125 @@ impl Table {
     }
 }
 
+// All stages, and a file.
+
+fn stages(table: &Table) {
+    println!("Nanoseconds a sample, border nearest, grey: the best of several runs on one core, buffers warm and not cleared.");
+    println!("`=`: the same samples on this picture; `~`: not all the same.");
+    println!("Plain Rust does the same arithmetic throughout, OpenCV and SciPy in boxes, ranks and outlines; in stages of weights theirs is only similar.\n");
+    println!("| work             | size     |   library | plain Rust |  ratio |     OpenCV |      SciPy |");
+    println!("|------------------|----------|----------:|-----------:|-------:|-----------:|-----------:|");
+    for (work, recipe) in recipes() {
+        for size in SIZES {
+            stage_row(table, work, &recipe, size);
+        }
+    }
+    for size in SIZES {
+        file_row(table, size);
+    }
+}
+
+fn stage_row(table: &Table, work: &str, recipe: &[u8], size: Size) {
+    let (w, h) = size;
+    let plane = picture(w, h);
+    let stages = reference::read_recipe(recipe).unwrap();
+    let (library, out) = if stages.len() == 1 {
+        on_plane(recipe, size, &plane, LONG)
+    } else {
+        let still = hejslopi::write_still(w, h, 1, &plane).unwrap();
+        on_file(recipe, size, &still)
+    };
+    // the plain reading sorts each window of a rank, which takes long
+    let short = work != "rank 31x31" || w * h < 100_000;
+    let plain = short.then(|| {
+        let mut result = Vec::new();
+        let time = best(|| result = reference::chain(&stages, w, h, &plane));
+        assert!(result == out[out.len() - w * h..], "{work} {w}x{h}");
+        each(time, size)
+    });
+    table.row(work, &named(size), each(library, size), plain);
+}
+
+fn file_row(table: &Table, size: Size) {
+    let (w, h) = size;
+    let recipe = [1, 3, 1, 0, 1, 1];
+    let still = hejslopi::write_still(w, h, 1, &picture(w, h)).unwrap();
+    let (library, out) = on_file(&recipe, size, &still);
+    let most = usize::MAX;
+    let lent = reference::Lengths {
+        work: most,
+        rows: most,
+        sums: most,
+        out: most,
+    };
+    let plain = best(|| assert!(reference::filter_file(&recipe, &still, lent).unwrap().2 == out));
+    table.row(
+        "file, bin. 3x3",
+        &named(size),
+        each(library, size),
+        Some(each(plain, size)),
+    );
+}
+
+// Ranks.
+
+const RADII: [u8; 4] = [1, 3, 7, 15];
+
+/// Square windows on all pictures: the smallest sample, the median and the largest.
+fn ranks(table: &Table) {
+    println!("\nRanks, nanoseconds a sample as above, measured for shorter whiles. noise: every sample at random; bed: shading, a few edges and a sensor's noise of at most three levels.");
+    println!("OpenCV: erode for the first position, medianBlur for the median, dilate for the last. SciPy: minimum_filter, median_filter, maximum_filter, at 96x72 alone.");
+    println!("`=`: all samples are those of document 01 on this picture, as peers.py counts them out; `~`: not all.\n");
+    println!("| window | picture |   p | size     | library |   OpenCV |      SciPy |");
+    println!("|--------|---------|----:|----------|--------:|---------:|-----------:|");
+    for r in RADII {
+        for (picture, make, _) in PICTURES {
+            for p in [1, area(r, r) / 2 + 1, area(r, r)] {
+                for (w, h) in SIZES {
+                    rank_row(table, r, p, picture, (w, h), &make(w, h));
+                }
+            }
+        }
+    }
+}
+
+/// At the small size the library's samples are seen to be those of the plain reading, which takes too long for the large one.
+fn rank_row(table: &Table, r: u8, p: u16, picture: &str, size: Size, plane: &[u8]) {
+    let (w, h) = size;
+    let window = format!("{0}x{0}", 2 * r + 1);
+    let work = format!("rank {window} p {p} {picture}");
+    let recipe = rank(r, r, p);
+    let (library, out) = on_plane(&recipe, size, plane, SHORT);
+    if size == SIZES[0] {
+        let stages = reference::read_recipe(&recipe).unwrap();
+        assert!(out == reference::chain(&stages, w, h, plane), "{work}");
+    }
+    let size_name = named(size);
+    println!(
+        "| {window:<6} | {picture:<7} | {p:>3} | {size_name:<8} | {:>7.2} | {:>8} | {:>10} |",
+        each(library, size),
+        table.peer(&work, &size_name, "opencv"),
+        table.peer(&work, &size_name, "scipy")
+    );
+}
+
+/// What each radius costs by itself, beside one of 7.
+fn radii() {
+    let size = SIZES[1];
+    let plane = picture(size.0, size.1);
+    let time = |r, s| each(on_plane(&median(r, s), size, &plane, SHORT).0, size);
+    println!("\nThe library's medians by their radii, r across and s down, {}, the usual picture, nanoseconds a sample:\n", named(size));
+    println!("| radius | as r, s = 7 | as s, r = 7 |");
+    println!("|-------:|------------:|------------:|");
+    for radius in RADII {
+        println!(
+            "| {radius:>6} | {:>11.2} | {:>11.2} |",
+            time(radius, 7),
+            time(7, radius)
+        );
+    }
+}
+
 // A background of a hundred stills.
 
 const KEPT: usize = 100;
@@ -128,8 +368,8 @@ struct Kept {
 }
 
 impl Kept {
-    fn new(w: usize, h: usize) -> Kept {
-        let samples = picture(KEPT * w * h);
+    fn new((w, h): Size) -> Kept {
+        let samples = picture(w, KEPT * h);
         let still = |raster: &[u8]| hejslopi::write_still(w, h, 1, raster).unwrap();
         let needs = hejslopi::background_needs(w, h, 1, KEPT).unwrap();
         let mut kept = Kept {
@@ -164,7 +404,7 @@ impl Kept {
         others.remove(last as u32).unwrap();
         let still = &self.stills[last];
         let add = |stills: &mut Stills| stills.add(still, last as u32, 0).unwrap();
-        [library, best_after(|| others.clone(), add)]
+        [library, best_after(LONG, || others.clone(), add)]
     }
 
     /// One from the middle. The last takes its place, which is as long a copy wherever that is.
@@ -177,7 +417,7 @@ impl Kept {
             hejslopi::remove_still_from(middle as u32, rasters, labels, &mut self.held).unwrap();
         });
         let remove = |stills: &mut Stills| stills.remove(middle as u32).unwrap();
-        [library, best_after(|| self.plain.clone(), remove)]
+        [library, best_after(LONG, || self.plain.clone(), remove)]
     }
 
     fn mean(&self) -> [Duration; 2] {
@@ -193,7 +433,7 @@ impl Kept {
 
 fn background(table: &Table) {
     let (w, h) = SIZES[0];
-    let mut kept = Kept::new(w, h);
+    let mut kept = Kept::new((w, h));
     println!("\nA background of {KEPT} stills of {w}x{h}, grey, in lent memory. The mean goes through all their samples; an addition and a removal copy one still.\n");
     println!("| work     | samples | library: a call | a sample | plain Rust: a call | ratio | NumPy: a sample |");
     println!("|----------|--------:|----------------:|---------:|-------------------:|------:|----------------:|");
@@ -209,102 +449,14 @@ fn background(table: &Table) {
             "| {work:<8} | {samples:>7} | {library:>15} | {:>8.2} | {plain:>18} | {:>5.1} | {:>15} |",
             library / samples as f64,
             plain / library,
-            table.peer(&format!("background {work}"), &format!("{w}x{h}"), "numpy")
+            table.peer(&format!("background {work}"), &named((w, h)), "numpy")
         );
     }
 }
 
-/// Lines of work, size, peer, nanoseconds and `=` or `~`, with tabs between.
-fn peers(path: &str) -> HashMap<String, String> {
-    let text = std::fs::read_to_string(path).expect("the file of peers can be read");
-    let entry = |line: &str| {
-        let fields: Vec<&str> = line.split('\t').collect();
-        (
-            fields[..3].join("\t"),
-            format!("{} {}", fields[4], fields[3]),
-        )
-    };
-    text.lines()
-        .filter(|line| !line.starts_with('#'))
-        .map(entry)
-        .collect()
-}
+// Recipes read.
 
-fn main() {
-    let peers = std::env::args()
-        .nth(1)
-        .map(|path| peers(&path))
-        .unwrap_or_default();
-    let table = Table { peers };
-    println!("Nanoseconds a sample, border nearest, grey: the best of several runs on one core, buffers warm and not cleared.");
-    println!("`=`: the same samples on this picture; `~`: not all the same.");
-    println!("Plain Rust does the same arithmetic throughout, OpenCV and SciPy in boxes, ranks and outlines; in stages of weights theirs is only similar.\n");
-    println!("| work             | size     |   library | plain Rust |  ratio |     OpenCV |      SciPy |");
-    println!("|------------------|----------|----------:|-----------:|-------:|-----------:|-----------:|");
-    for (work, recipe) in recipes() {
-        for (w, h) in SIZES {
-            let plane = picture(w * h);
-            let size = format!("{w}x{h}");
-            let stages = reference::read_recipe(&recipe).unwrap();
-            let still = hejslopi::write_still(w, h, 1, &plane).unwrap();
-            let mut room = hejslopi::Room::new(hejslopi::needs(&recipe, w, h).unwrap());
-            let mut out = vec![0; still.len()];
-            let header = still.len() - w * h;
-            let library = if stages.len() == 1 {
-                best(|| {
-                    hejslopi::filter_plane_into(
-                        &recipe,
-                        w,
-                        h,
-                        &plane,
-                        room.lend(),
-                        &mut out[header..],
-                    )
-                    .unwrap();
-                })
-            } else {
-                best(|| {
-                    hejslopi::filter_file_into(&recipe, &still, room.lend(), &mut out).unwrap();
-                })
-            };
-            // the plain reading sorts each window of a rank, which takes long
-            let short = work != "rank 31x31" || w * h < 100_000;
-            let plain = short.then(|| {
-                let mut result = Vec::new();
-                let time = best(|| result = reference::chain(&stages, w, h, &plane));
-                assert!(result == out[header..], "{work} {size}");
-                time
-            });
-            let each = |t: Duration| t.as_nanos() as f64 / (w * h) as f64;
-            table.row(work, &size, each(library), plain.map(each));
-        }
-    }
-    for (w, h) in SIZES {
-        let recipe = [1, 3, 1, 0, 1, 1];
-        let still = hejslopi::write_still(w, h, 1, &picture(w * h)).unwrap();
-        let mut room = hejslopi::Room::new(hejslopi::needs(&recipe, w, h).unwrap());
-        let mut out = vec![0; still.len()];
-        let library = best(|| {
-            hejslopi::filter_file_into(&recipe, &still, room.lend(), &mut out).unwrap();
-        });
-        let most = usize::MAX;
-        let lent = reference::Lengths {
-            work: most,
-            rows: most,
-            sums: most,
-            out: most,
-        };
-        let plain =
-            best(|| assert!(reference::filter_file(&recipe, &still, lent).unwrap().2 == out));
-        let each = |t: Duration| t.as_nanos() as f64 / (w * h) as f64;
-        table.row(
-            "file, bin. 3x3",
-            &format!("{w}x{h}"),
-            each(library),
-            Some(each(plain)),
-        );
-    }
-    background(&table);
+fn reading() {
     println!("\nReading a recipe, nanoseconds a call:\n");
     println!("| recipe       | bytes | library | plain Rust | ratio |");
     println!("|--------------|------:|--------:|-----------:|------:|");
@@ -326,4 +478,36 @@ fn main() {
             plain as f64 / library as f64
         );
     }
+}
+
+/// Lines of work, size, peer, nanoseconds and `=` or `~`, with tabs between.
+fn peers(path: &str) -> HashMap<String, String> {
+    let text = std::fs::read_to_string(path).expect("the file of peers can be read");
+    let entry = |line: &str| {
+        let fields: Vec<&str> = line.split('\t').collect();
+        (
+            fields[..3].join("\t"),
+            format!("{} {}", fields[4], fields[3]),
+        )
+    };
+    text.lines()
+        .filter(|line| !line.starts_with('#'))
+        .map(entry)
+        .collect()
+}
+
+fn main() {
+    for (name, make, sum) in PICTURES {
+        assert!(checksum(make) == sum, "{name}: not the picture of peers.py");
+    }
+    let peers = std::env::args()
+        .nth(1)
+        .map(|path| peers(&path))
+        .unwrap_or_default();
+    let table = Table { peers };
+    stages(&table);
+    ranks(&table);
+    radii();
+    background(&table);
+    reading();
 }

@@ -283,6 +283,7 @@ fn longest_sides_are_filtered_alike() {
                 &[3, border, 0, 15, 15][..],
                 &[4, border, 0, 15, 15],
                 &[5, border, 0, 2, 2, 0, 9],
+                &[5, border, 0, 4, 3, 0, 40],
                 &[6, border, 0],
             ] {
                 let recipe = [&[1], work].concat();
@@ -290,6 +291,32 @@ fn longest_sides_are_filtered_alike() {
                 let plane = inputs::samples(&mut rng, w * h);
                 let need = reference::needs(&stages, w, h, w * h);
                 calls::filter_plane(&mut rng, &recipe, w, h, &plane, need).unwrap();
+            }
+        }
+    }
+}
+
+/// A rank stage at the first position, the last and one between, on a frame that may be smaller than its window.
+fn rank(rng: &mut Rng, border: u8, r: u8, s: u8) {
+    let (w, h) = (rng.size(1, 20), rng.size(1, 12));
+    let plane = inputs::samples(rng, w * h);
+    let last = (2 * r as u16 + 1) * (2 * s as u16 + 1);
+    for p in [1, rng.size(1, last as usize) as u16, last] {
+        let [high, low] = p.to_be_bytes();
+        let recipe = [1, 5, border, rng.byte(), r, s, high, low];
+        let need = reference::needs(&reference::read_recipe(&recipe).unwrap(), w, h, w * h);
+        calls::filter_plane(rng, &recipe, w, h, &plane, need).unwrap();
+    }
+}
+
+/// Every window under every border.
+#[test]
+fn ranks_are_filtered_alike() {
+    let mut rng = Rng::new(support::base_seed());
+    for border in 0..4 {
+        for r in 0..=15 {
+            for s in 0..=15 {
+                rank(&mut rng, border, r, s);
             }
         }
     }

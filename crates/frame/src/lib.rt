@@ -70,19 +70,3 @@ pub fn padded_row(frame: Frame, plane: &[u8], y: usize, dst: &mut [u8])
         buffers::fill_front(dst, w + 30, frame.value);
     }
 }
-
-// The sample supplied at place x, y.
-pub fn sample_at(frame: Frame, plane: &[u8], x: usize, y: usize) -> u8
-    requires { ⌜ Framed frame (now plane) × (x ≤ 16384) × (y ≤ 16384) ⌝ }
-    ensures { λ r. ⌜ r ≡ padded frame (now (plane .entry)) x y ⌝ }
-{
-    let border = frame.border;
-    let w = frame.width;
-    let h = frame.height;
-    let v = places::place(border, h, y);
-    if v < h {
-        let at = v * w;
-        return sample(frame, &plane[at..], x);
-    }
-    frame.value
-}

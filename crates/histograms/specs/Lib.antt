@@ -1,2 +1,4 @@
--- Counts of grey levels, definitions only.
+-- Counts of grey levels, definitions only. Read the files in this order.
 pub mod Histogram
+pub mod Column
+pub mod Position

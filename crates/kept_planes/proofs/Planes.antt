@@ -10,8 +10,10 @@ use lib.Seq.{length-take-le, take-at, drop-at}
 use Rattle.lists.specs.Tabulate.{tabulate, raster}
 use Rattle.lists.proofs.Part.{drop-past}
 use Rattle.lists.proofs.Raster.{length-raster}
+use Rattle.lists.proofs.Stored.{StoredRows}
 use Rattle.frame.specs.declared.Frame.{Frame}
 use Rattle.frame.specs.Framed.{Framed}
+use Rattle.kept_planes.specs.HeldRow.{kept}
 
 -- a part of n samples from place n on
 pub part-behind : (n : ℕ) (l : List ℕ) → take (n + n - n) (drop n l) ≡ take n (drop n l)
@@ -45,3 +47,7 @@ module _ (g : ℕ → ℕ → ℕ) (w v at : ℕ) (d l : List ℕ) (e : at ≡ v
   -- the front of the buffer is the rows
   pub rows-front : take at l ≡ raster g w v
   rows-front = rw (el, take-at (raster g w v) _ at rows-length)
+
+-- rows of the plane in front leave the kept plane as it was
+pub kept-same : (f : Frame) (g : ℕ → ℕ → ℕ) (d l : List ℕ) {at v : ℕ} → StoredRows g (f .width) (f .height) d l at v → kept f l ≡ kept f d
+kept-same f g d l {at} {v} s = behind-rows g (f .width) v at d l (s .place) (s .front) (f .height) (s .so-far)

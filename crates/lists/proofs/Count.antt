@@ -6,7 +6,8 @@ use mathlib.Core.Path.{_≡_, refl, subst}
 use mathlib.Core.Bool.{Bool, true, false, not, cond}
 use mathlib.Core.List.{List, [], _∷_, List·Memᴰ, List·Memᴰ·head, List·Memᴰ·tail}
 use lib.ListN.{length}
-use lib.Dec.{T, ltb, leb, ltb→lt, nltb→le, leb→le, nleb→lt}
+use lib.Dec.{T, eqb, ltb, leb, ltb→lt, nltb→le, leb→le, nleb→lt}
+use borrow.Author.Tests.{eqb-true, eqb-false}
 use Rattle.lists.specs.Count.{count}
 
 -- a test's bit, by what the test found
@@ -27,6 +28,20 @@ bit-le a b = go (leb a b) (leb→le a b) (nleb→lt a b)
     go : (t : Bool) → (T t → a ≤ b) → (T (not t) → b < a) → Bit (a ≤ b) (b < a) (cond t 1 0)
     go true h k = one (h tt)
     go false h k = none (k tt)
+
+pub bit-eq : (a b : ℕ) → Bit (a ≡ b) (a ≡ b → ⊥) (cond (eqb a b) 1 0)
+bit-eq a b = go (eqb a b) refl
+  where
+    go : (t : Bool) → eqb a b ≡ t → Bit (a ≡ b) (a ≡ b → ⊥) (cond t 1 0)
+    go true e = one (eqb-true a b e)
+    go false e = none (eqb-false a b e)
+
+pub bit-same : (a : ℕ) → cond {A = ℕ} (eqb a a) 1 0 ≡ 1
+bit-same a = go (bit-eq a a)
+  where
+    go : {n : ℕ} → Bit (a ≡ a) (a ≡ a → ⊥) n → n ≡ 1
+    go (one e) = refl
+    go (none e) = absurd (e refl)
 
 pub bit-one : (t : Bool) → cond t 1 0 ≤ 1
 bit-one true = omega arith

@@ -5,4 +5,5 @@ pub mod Pairs
 pub mod Count
 pub mod Order
 pub mod Sums
+pub mod CountParts
 pub mod Stored

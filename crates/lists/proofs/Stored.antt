@@ -2,11 +2,12 @@
 use Prim.Native.Nat.{ℕ, _+_, _*_, _-_, _≤_, _<_}
 use native.Mathlib.Nat.{le-antisymm}
 use native.Mathlib.Omega.{arith}
-use mathlib.Core.Path.{_≡_, refl, ap, _∙_}
+use mathlib.Core.Path.{_≡_, refl, sym, ap, _∙_}
 use mathlib.Core.List.{List, _++_}
 use lib.ListN.{length, getD, take, drop, set, length-set, length-append, length-drop}
+use lib.Seq.{getD-drop}
 use Rattle.lists.specs.Tabulate.{tabulate, raster}
-use Rattle.lists.proofs.Tabulate.{fill-none, fill-more, filled-next}
+use Rattle.lists.proofs.Tabulate.{fill-none, fill-more, filled-next, filled-behind}
 use Rattle.lists.proofs.Raster.{rows-none, rows-more, row-fits, length-raster}
 
 -- ---- entry by entry: f 0, f 1, .. up to i of n, in a buffer that was d
@@ -30,6 +31,12 @@ module _ {A : Type 0} where
   -- the next entry is as it was
   pub stored-next : {f : ℕ → A} {n : ℕ} {d l : List A} {i : ℕ} (a : A) → Stored f n d l i → getD l i a ≡ getD d i a
   stored-next {f} {n} {d} {l} {i} a s = filled-next f i d l a (s .front)
+
+  -- and so are all behind it
+  pub stored-behind : {f : ℕ → A} {n : ℕ} {d l : List A} {i : ℕ} (a : A) → Stored f n d l i → (k : ℕ) → i ≤ k → getD l k a ≡ getD d k a
+  stored-behind {f} {n} {d} {l} {i} a s k h =
+      let place : k ≡ i + (k - i) = omega arith in
+      rw place (sym (getD-drop i l (k - i) a) ∙ ap (λ (t : List A). getD t (k - i) a) (filled-behind f i d l (s .front)) ∙ getD-drop i d (k - i) a)
 
   pub stored-done : {f : ℕ → A} {n : ℕ} {d l : List A} {i : ℕ} → Stored f n d l i → n ≤ i → l ≡ tabulate f n ++ drop n d
   stored-done s h = rw (le-antisymm (s .so-far) h) at (s .front)

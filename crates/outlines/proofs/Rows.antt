@@ -7,7 +7,6 @@ use lib.ListN.{getD, take, drop, length-drop}
 use lib.Seq.{getD-drop, getD-take}
 use Rattle.lists.specs.Tabulate.{tabulate, raster}
 use Rattle.lists.proofs.Tabulate.{getD-tabulate, tabulate-ext, tabulate-getD}
-use Rattle.lists.proofs.Stored.{StoredRows}
 use Rattle.model.specs.Window.{window}
 use Rattle.model.specs.Outline.{edgeStrength, outlineResult}
 use Rattle.frame.specs.declared.Frame.{Frame}
@@ -15,12 +14,7 @@ use Rattle.frame.specs.Framed.{neighbours}
 use Rattle.frame.specs.Padded.{padded}
 use Rattle.frame.proofs.Supplied.{window-padded}
 use Rattle.outlines.specs.Square.{squareAt}
-use Rattle.kept_planes.proofs.Planes.{behind-rows}
-use Rattle.kept_planes.specs.HeldRow.{kept, Held}
-
--- rows of the plane in front leave the kept plane as it was
-pub kept-same : (f : Frame) (g : ℕ → ℕ → ℕ) (d l : List ℕ) {at v : ℕ} → StoredRows g (f .width) (f .height) d l at v → kept f l ≡ kept f d
-kept-same f g d l {at} {v} s = behind-rows g (f .width) v at d l (s .place) (s .front) (f .height) (s .so-far)
+use Rattle.kept_planes.specs.HeldRow.{Held}
 
 module _ (f : Frame) (samples : List ℕ) where
   row-at : {y : ℕ} {row : List ℕ} → Held f samples y row → (x : ℕ) → x < f .width + 30 → getD row x 0 ≡ padded f samples x y

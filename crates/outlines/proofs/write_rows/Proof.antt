@@ -12,9 +12,9 @@ use Rattle.lists.proofs.Raster.{length-raster}
 use Rattle.lists.proofs.Stored.{StoredRows, rows-stored-none, rows-stored-more, rows-stored-done, row-room}
 use Rattle.model.specs.Outline.{outlineResult}
 use Rattle.frame.specs.Framed.{neighbours, worked}
-use Rattle.kept_planes.proofs.Planes.{plane-behind, plane-small}
+use Rattle.kept_planes.proofs.Planes.{plane-behind, plane-small, kept-same}
 use Rattle.kept_planes.specs.HeldRow.{kept, Held}
-use Rattle.outlines.proofs.Rows.{kept-same, levels}
+use Rattle.outlines.proofs.Rows.{levels}
 use borrow.Author.Needs.{needs}
 use Rattle.outlines.proofs.write_rows.Statement.{statement}
 use Rattle.outlines.proofs.write_rows.Tie as tie

@@ -1,0 +1,2 @@
+-- Rows that are held, definitions only.
+pub mod HeldRows
