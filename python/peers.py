@@ -6,7 +6,7 @@ all the peer's samples are those of document 01 on this picture, `~` where some 
 how many differ and by how much. The same arithmetic, whatever the picture: boxes (an odd area never gives a half), ranks and outlines.
 Only a similar one: stages of weights, for neither peer rounds weights to 65,536ths and row values to 64ths. Binomials of 3x3 and
 5x5 lose nothing by either, so their samples agree. SciPy is handed binary64 and its result is rounded here. A chain has both.
-Ranks have more rows, by window, position and picture (`rank 7x7 p 25 noise`): shorter measured, with SciPy at the small size alone, and compared in all
+Ranks have more rows, by window, position and picture (`rank 7x7 p 25 noise`): measured for a shorter while, with SciPy at the small size alone, and compared in all
 their samples too.
 
     python3 python/peers.py FILE && cd rust && cargo run --release --example benchmark -- FILE
@@ -335,7 +335,7 @@ def tell_stages(out):
 
 
 def tell_ranks(out):
-    """At the large size without SciPy, whose median takes 10 microseconds a sample with the largest window."""
+    """At the large size without SciPy, whose median takes over 10 microseconds a sample with the largest window."""
     for r, (name, make, _), (w, h) in itertools.product(RADII, PICTURES, SIZES):
         x = make(w, h)
         positions = [1, middle(r), area(r)]

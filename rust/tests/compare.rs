@@ -301,9 +301,10 @@ fn rank(rng: &mut Rng, border: u8, r: u8, s: u8) {
     let (w, h) = (rng.size(1, 20), rng.size(1, 12));
     let plane = inputs::samples(rng, w * h);
     let last = (2 * r as u16 + 1) * (2 * s as u16 + 1);
+    let value = if border == 0 { rng.byte() } else { 0 };
     for p in [1, rng.size(1, last as usize) as u16, last] {
         let [high, low] = p.to_be_bytes();
-        let recipe = [1, 5, border, rng.byte(), r, s, high, low];
+        let recipe = [1, 5, border, value, r, s, high, low];
         let need = reference::needs(&reference::read_recipe(&recipe).unwrap(), w, h, w * h);
         calls::filter_plane(rng, &recipe, w, h, &plane, need).unwrap();
     }

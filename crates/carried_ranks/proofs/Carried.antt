@@ -25,7 +25,7 @@ module _ (f : Frame) (samples : List ℕ) (r s v : ℕ) (hr : r ≤ 15) (hs : s 
   unfolding histogram
   window-counts u = tabulate-ext _ _ 256 (λ g _. columns-supplied f samples (15 - s + v) (λ x. eqb x g) (2 * s + 1) (15 - r + u) (2 * r + 1) ∙ ap (λ (xs : List ℕ). atLevel g xs) (sym (window-padded f samples r s u v hr hs)))
 
-  -- the law of a step: take off the column that leaves and count the one that enters, and the counts are those of the next sample's window
+  -- the law of a step: with the column that leaves taken off and the one that enters counted, what is counted is the window of the sample that comes next
   pub carried : (u : ℕ) (now without next : List ℕ) → now ≡ histogram (window r s (neighbours f samples u v))
       → now ≡ counted without (column (15 - r + u)) → next ≡ counted without (column (15 - r + u + (2 * r + 1)))
       → next ≡ histogram (window r s (neighbours f samples (u + 1) v))

@@ -1,9 +1,9 @@
 -- The histogram of a window of the frame, and the window's p-th smallest sample. Assumes nothing.
 use Prim.Native.Nat.{ℕ, _+_, _-_, _*_, _≤_, _<_}
-use native.Mathlib.Nat.{le-trans, min-le-left, lt-of-not-le, mul-le-mul}
+use native.Mathlib.Nat.{le-trans, min-le-left, lt-of-not-le}
 use native.Mathlib.Omega.{arith}
 use native.Mathlib.Decide.{decLe}
-use mathlib.Core.Path.{_≡_, sym, ap, _∙_}
+use mathlib.Core.Path.{_≡_, sym, _∙_}
 use mathlib.Core.List.{List}
 use lib.ListN.{length, length-take, getD, take, drop, List·getD-eq-default}
 use lib.Seq.{getD-take, getD-drop}
@@ -25,16 +25,8 @@ use Rattle.histograms.proofs.Below.{total-at-most, smallest-level}
 use Rattle.model.specs.Window.{area, window}
 use Rattle.model.specs.Rank.{rankResult}
 use Rattle.model_laws.proofs.Chain.{around-both}
-use Rattle.model_laws.proofs.Window.{length-window}
+use Rattle.model_laws.proofs.Window.{length-window, area-le}
 use Rattle.model_laws.proofs.Rank.{smallest-iff, rank-le}
-
--- a window has at most 31 by 31 samples
-area-le : (r s : ℕ) → r ≤ 15 → s ≤ 15 → area r s ≤ 961
-unfolding area
-area-le r s h k =
-    let a : 2 * r + 1 ≤ 31 = omega arith in
-    let b : 2 * s + 1 ≤ 31 = omega arith in
-    mul-le-mul a b
 
 -- the front of a list, as a part that is lent from 0 on
 pub part-front : (n : ℕ) (l m : List ℕ) → take n l ≡ m → take (n - 0) (drop 0 l) ≡ m
@@ -74,7 +66,7 @@ module _ (f : Frame) (samples : List ℕ) (r s p u v : ℕ) (hr : r ≤ 15) (hs 
   -- what it takes to look for the level at which the sum of the counts reaches p
   pub level-there : (at : Reached) → f .value ≤ 255 → Bytes samples → Summed counts at
       → (length counts ≡ 256) × (1 ≤ p) × (p ≤ 961) × (p ≤ total counts 256) × Summed counts at
-  level-there at hv hb t = (length-histogram counts _ e, hp, le-trans hq (area-le r s hr hs), all-counted hv hb, t)
+  level-there at hv hb t = (length-histogram counts _ e, hp, le-trans hq (area-le r s 15 15 hr hs), all-counted hv hb, t)
 
   -- that level is the result
   pub rank-found : (at : Reached) → at .level < 256 → Reaches counts p at → at .level ≡ rankResult r s p near

@@ -1,4 +1,5 @@
-// Rank stages of any window: how often each grey level occurs in it gives its p-th smallest sample. The counts are carried along the row, and so is the level that was found.
+// Rank stages of any window: how often each grey level occurs in it gives its p-th smallest sample. The counts are carried along the row, and so is the level
+// that was found.
 use frame::Frame;
 use histograms::Reached;
 use stage_values::Window;

@@ -1,4 +1,4 @@
-// The frame rule in one place: rows with the samples that it supplies on both sides, so that no loop above tests for the border.
+// The frame rule for whole rows: the samples that it supplies on both sides, so that no loop above tests for the border.
 use stage_values::Border;
 ghost use mathlib.Core.Path.{_≡_};
 ghost use mathlib.Core.List.{_++_};

@@ -11,13 +11,13 @@ use lib.ListN.{length, getD, replicate}
 use lib.Dec.{eqb, leb, ltb, leb→le, lt→ltb, leb·suc-suc}
 use borrow.Author.Tests.{lt-ltb, le-ltb}
 use Rattle.lists.specs.Tabulate.{tabulate}
-use Rattle.lists.specs.Count.{count}
+use Rattle.lists.specs.Count.{count, atMost}
 use Rattle.lists.proofs.Tabulate.{length-tabulate}
 use Rattle.lists.proofs.Count.{Bit, one, none, bit-eq, bit-lt, bit-le, count-mono, count-length}
 use Rattle.lists.proofs.Sums.{count-more, count-none}
 use Rattle.lists.proofs.CountParts.{count-alike}
 use Rattle.model.specs.Rank.{smallest}
-use Rattle.model_laws.proofs.Rank.{atMost, smallest-by}
+use Rattle.model_laws.proofs.Rank.{smallest-by}
 use Rattle.histograms.specs.Histogram.{atLevel, belowLevel, histogram, total}
 use Rattle.histograms.proofs.Counts.{getD-histogram}
 

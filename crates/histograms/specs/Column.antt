@@ -9,5 +9,5 @@ unfoldable pub columnOf : List ℕ → List ℕ → ℕ → List ℕ
 columnOf plane rows c = tabulate (λ k. getD plane (getD rows k 0 + c) 0) (length rows)
 
 -- all of them are in the plane
-abbrev pub Inside : List ℕ → List ℕ → ℕ → Type 0
-Inside plane rows c = (k : ℕ) → k < length rows → getD rows k 0 + c < length plane
+abbrev pub ColumnInside : List ℕ → List ℕ → ℕ → Type 0
+ColumnInside plane rows c = (k : ℕ) → k < length rows → getD rows k 0 + c < length plane

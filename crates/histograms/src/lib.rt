@@ -1,4 +1,5 @@
-// Counts of grey levels that are carried along: a column of samples is counted too, or taken off, and the level at which the sum of the counts reaches a position is looked for from where it was.
+// Counts of grey levels that are carried along: a column of samples is counted too, or taken off, and the level at which the sum of the counts reaches a
+// position is looked for from where it was.
 ghost use mathlib.Core.Path.{_≡_};
 ghost use mathlib.Core.Bool.{cond};
 ghost use mathlib.Core.List.{[]};
@@ -6,7 +7,7 @@ ghost use Prim.Native.Nat.{ℕ, _+_, _≤_, _<_};
 ghost use lib.ListN.{length, getD, replicate};
 ghost use lib.Dec.{ltb};
 ghost use Rattle.histograms.specs.Histogram.{atLevel, belowLevel, counted, histogram, total};
-ghost use Rattle.histograms.specs.Column.{columnOf, Inside};
+ghost use Rattle.histograms.specs.Column.{columnOf, ColumnInside};
 ghost use Rattle.histograms.specs.Position.{Summed, Reaches};
 
 // A level, and how many samples are below it.
@@ -44,7 +45,7 @@ fn sample(plane: &[u8], rows: &[usize], k: usize, c: usize) -> u8
 
 // A column's samples counted too. How many of them are below a level.
 pub fn add_column(plane: &[u8], rows: &[usize], c: usize, level: u8, counts: &mut [u32]) -> usize
-    requires { ⌜ Inside (now plane) (now rows) c × (length (now rows) ≤ 31) × (length (now counts) ≡ 256) × ((g : ℕ) → getD (now counts) g 0 ≤ 961) ⌝ }
+    requires { ⌜ ColumnInside (now plane) (now rows) c × (length (now rows) ≤ 31) × (length (now counts) ≡ 256) × ((g : ℕ) → getD (now counts) g 0 ≤ 961) ⌝ }
     ensures { λ r. ⌜ (now (counts .exit) ≡ counted (now (counts .entry)) (columnOf (now (plane .entry)) (now (rows .entry)) c)) × (r ≡ belowLevel level (columnOf (now (plane .entry)) (now (rows .entry)) c)) ⌝ }
 {
     let n = rows.len();
@@ -61,7 +62,7 @@ pub fn add_column(plane: &[u8], rows: &[usize], c: usize, level: u8, counts: &mu
 
 // A column's samples taken off, so that the counts before are those after with the column counted too. How many of them are below a level.
 pub fn take_column(plane: &[u8], rows: &[usize], c: usize, level: u8, counts: &mut [u32]) -> usize
-    requires { ⌜ Inside (now plane) (now rows) c × (length (now rows) ≤ 31) × (length (now counts) ≡ 256) × ((g : ℕ) → g < 256 → atLevel g (columnOf (now plane) (now rows) c) ≤ getD (now counts) g 0) ⌝ }
+    requires { ⌜ ColumnInside (now plane) (now rows) c × (length (now rows) ≤ 31) × (length (now counts) ≡ 256) × ((g : ℕ) → g < 256 → atLevel g (columnOf (now plane) (now rows) c) ≤ getD (now counts) g 0) ⌝ }
     ensures { λ r. ⌜ (now (counts .entry) ≡ counted (now (counts .exit)) (columnOf (now (plane .entry)) (now (rows .entry)) c)) × (r ≡ belowLevel level (columnOf (now (plane .entry)) (now (rows .entry)) c)) ⌝ }
 {
     let n = rows.len();
@@ -76,16 +77,16 @@ pub fn take_column(plane: &[u8], rows: &[usize], c: usize, level: u8, counts: &m
     lower
 }
 
-// As many samples of one level counted too, in one step. How many of them are below a level.
+// `many` samples of one level counted too, in one step. How many of them are below a level.
 pub fn add_alike(sample: u8, many: usize, level: u8, counts: &mut [u32]) -> usize
-    requires { ⌜ (many ≤ 31) × (length (now counts) ≡ 256) × ((g : ℕ) → getD (now counts) g 0 ≤ 1000) ⌝ }
+    requires { ⌜ (many ≤ 31) × (length (now counts) ≡ 256) × ((g : ℕ) → getD (now counts) g 0 ≤ 992) ⌝ }
     ensures { λ r. ⌜ (now (counts .exit) ≡ counted (now (counts .entry)) (replicate many sample)) × (r ≡ belowLevel level (replicate many sample)) ⌝ }
 {
     counts[sample as usize] += many as u32;
     if sample < level { many } else { 0 }
 }
 
-// As many samples of one level taken off, in one step. How many of them are below a level.
+// `many` samples of one level taken off, in one step. How many of them are below a level.
 pub fn take_alike(sample: u8, many: usize, level: u8, counts: &mut [u32]) -> usize
     requires { ⌜ (many ≤ 31) × (length (now counts) ≡ 256) × (many ≤ getD (now counts) sample 0) ⌝ }
     ensures { λ r. ⌜ (now (counts .entry) ≡ counted (now (counts .exit)) (replicate many sample)) × (r ≡ belowLevel level (replicate many sample)) ⌝ }

@@ -22,7 +22,7 @@ module _ {A : Type 0} (p : A → Bool) where
   count-alike zero x = omega arith
   count-alike (suc n) x = omega (arith, count-alike n x)
 
-  -- fewer of f 0, f 1, ..
+  -- a front of f 0, f 1, .. has no more
   pub count-front : (f : ℕ → A) (i n : ℕ) → i ≤ n → count p (tabulate f i) ≤ count p (tabulate f n)
   count-front f i n h =
       let split : i + (n - i) ≡ n = omega arith in

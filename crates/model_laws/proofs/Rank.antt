@@ -13,7 +13,7 @@ use lib.IntN.{ℤ, pos}
 use Rattle.integers.specs.Divide.{clamp}
 use Rattle.integers.proofs.Divide.{clamp-inside}
 use Rattle.integers.proofs.Near.{near-clamp}
-use Rattle.lists.specs.Count.{count}
+use Rattle.lists.specs.Count.{count, atMost}
 use Rattle.lists.proofs.Count.{Bit, one, none, bit-le}
 use Rattle.lists.proofs.Pairs.{Pairs, more, pairs-flip, pairs-length}
 use Rattle.lists.proofs.Pairs
@@ -22,10 +22,6 @@ use Rattle.model.specs.Window.{area, window}
 use Rattle.model.specs.Rank.{insert, sort, smallest, rankResult}
 use Rattle.model_laws.proofs.Weighted.{Close}
 use Rattle.model_laws.proofs.Window.{length-window, pairs-window, Apart}
-
--- how many are at most v
-abbrev pub atMost : ℕ → List ℕ → ℕ
-atMost v xs = count (λ x. leb x v) xs
 
 -- ---- sorted lists
 

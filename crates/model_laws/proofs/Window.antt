@@ -1,5 +1,6 @@
 -- Windows of two neighbourhoods whose samples are pairwise close. Assumes nothing.
 use Prim.Native.Nat.{ℕ, _+_, _*_, _≤_, _<_}
+use native.Mathlib.Nat.{mul-le-mul}
 use native.Mathlib.Omega.{arith}
 use mathlib.Core.Path.{_≡_, _∙_}
 use mathlib.Core.List.{List}
@@ -18,6 +19,14 @@ length-window r s f = length-raster (λ i j. f (pos i -ℤ pos r) (pos j -ℤ po
 pub area-pos : (r s : ℕ) → 0 < area r s
 unfolding area
 area-pos r s = omega arith
+
+-- smaller radii, smaller windows
+pub area-le : (r s a b : ℕ) → r ≤ a → s ≤ b → area r s ≤ (2 * a + 1) * (2 * b + 1)
+unfolding area
+area-le r s a b h k =
+    let across : 2 * r + 1 ≤ 2 * a + 1 = omega arith in
+    let down : 2 * s + 1 ≤ 2 * b + 1 = omega arith in
+    mul-le-mul across down
 
 pub pairs-window : {R : ℕ → ℕ → Type 0} (r s : ℕ) (f g : Neighbourhood) → ((i j : ℤ) → R (f i j) (g i j)) → Pairs R (window r s f) (window r s g)
 unfolding window

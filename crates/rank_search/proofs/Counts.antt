@@ -9,7 +9,7 @@ use mathlib.Core.List.{List, [], _∷_, _++_}
 use lib.Dec.{leb}
 use lib.ListN.{length, getD, take, drop, take-append-drop}
 use lib.Seq.{getD-drop}
-use Rattle.lists.specs.Count.{count}
+use Rattle.lists.specs.Count.{count, atMost}
 use Rattle.lists.specs.Tabulate.{tabulate, raster}
 use Rattle.lists.proofs.Count.{Bit, one, none, bit-le, count-length}
 use Rattle.lists.proofs.Part.{tail-mid}
@@ -20,7 +20,6 @@ use Rattle.lists.proofs.CountParts.{count-append}
 use Rattle.lists.proofs.Tabulate.{length-tabulate, tabulate-ext, tabulate-getD, filled-at, refill}
 use Rattle.model.specs.Sound.{Bytes}
 use Rattle.rank_search.specs.WindowAt.{windowAt}
-use Rattle.rank_search.specs.Halving.{atMost}
 
 -- every byte is at most 255
 bytes-counted : (xs : List ℕ) → Bytes xs → length xs ≤ atMost 255 xs
@@ -82,10 +81,10 @@ module _ (rows seen : List ℕ) (t : ℕ → ℕ) (w r : ℕ) where
       row : (u : ℕ) → tabulate (λ k. getD (take (length rows - at) (drop at rows)) (u + k) 0) (2 * r + 1) ≡ tabulate (λ i. getD rows (15 - r + j * (w + 30) + (u + i)) 0) (2 * r + 1)
       row u = tabulate-ext _ _ (2 * r + 1) (λ i b. rw (tail-mid at rows) (getD-drop at rows (u + i) 0 ∙ ap (λ (k : ℕ). getD rows (k + (u + i)) 0) ea))
 
-  -- at most five rows of five samples
-  pub over-fits : (j : ℕ) (l : List ℕ) → r ≤ 2 → j ≤ 4 → l ≡ tabulate (overRows j) w ++ drop w seen → (u : ℕ) → u < w → getD l u 0 + (2 * r + 1) ≤ 255
+  -- at most seven rows of seven samples
+  pub over-fits : (j : ℕ) (l : List ℕ) → r ≤ 3 → j ≤ 6 → l ≡ tabulate (overRows j) w ++ drop w seen → (u : ℕ) → u < w → getD l u 0 + (2 * r + 1) ≤ 255
   unfolding windowAt
   over-fits j l hr hj e u b =
-      let five : 2 * r + 1 ≤ 5 = omega (arith, hr) in
+      let seven : 2 * r + 1 ≤ 7 = omega (arith, hr) in
       rw (filled-at _ w seen l 0 u e b)
-      (omega (arith, hr, count-length (λ x. leb x (t u)) (windowAt rows w r j u), length-raster (λ i k. getD rows (15 - r + k * (w + 30) + (u + i)) 0) (2 * r + 1) j, mul-le-mul hj five))
+      (omega (arith, hr, count-length (λ x. leb x (t u)) (windowAt rows w r j u), length-raster (λ i k. getD rows (15 - r + k * (w + 30) + (u + i)) 0) (2 * r + 1) j, mul-le-mul hj seven))

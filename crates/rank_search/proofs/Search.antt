@@ -7,6 +7,7 @@ use mathlib.Core.Bool.{Bool, true, false, not, cond}
 use mathlib.Core.List.{List, _++_}
 use lib.Dec.{T, ltb, ltb→lt, nltb→le}
 use lib.ListN.{length, getD, drop, take-append-drop}
+use Rattle.lists.specs.Count.{atMost}
 use Rattle.lists.specs.Tabulate.{tabulate}
 use Rattle.lists.proofs.Tabulate.{tabulate-ext, tabulate-getD, filled-at, filled-behind}
 use Rattle.lists.proofs.Raster.{length-raster}
@@ -14,9 +15,10 @@ use Rattle.model.specs.Rank.{smallest}
 use Rattle.model.specs.Sound.{Bytes}
 use Rattle.model_laws.proofs.Rank.{smallest-iff}
 use Rattle.rank_search.specs.WindowAt.{windowAt}
-use Rattle.rank_search.specs.Halving.{atMost, halved}
+use Rattle.rank_search.specs.Halving.{halved}
 use Rattle.rank_search.proofs.Counts.{raster-counted}
 
+-- the p-th smallest of xs is one of so many levels from low on
 pub record Among (p : ℕ) (xs : List ℕ) (levels low : ℕ) : Type 0 where
   pub least : low ≤ smallest p xs
   pub most : smallest p xs < low + levels

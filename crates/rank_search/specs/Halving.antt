@@ -2,12 +2,8 @@
 use Prim.Native.Nat.{ℕ, _+_, _-_}
 use mathlib.Core.Bool.{cond}
 use mathlib.Core.List.{List}
-use lib.Dec.{leb, ltb}
-use Rattle.lists.specs.Count.{count}
-
--- how many samples are at most a level
-abbrev pub atMost : ℕ → List ℕ → ℕ
-atMost v xs = count (λ x. leb x v) xs
+use lib.Dec.{ltb}
+use Rattle.lists.specs.Count.{atMost}
 
 -- the lowest level that is left, by how many samples are at most the largest level of the lower half
 unfoldable pub halved : ℕ → ℕ → List ℕ → ℕ → ℕ

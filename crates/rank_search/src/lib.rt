@@ -6,10 +6,11 @@ ghost use mathlib.Core.List.{_++_};
 ghost use Prim.Native.Nat.{ℕ, _+_, _*_, _≤_, _<_};
 ghost use lib.Dec.{leb, ltb};
 ghost use lib.ListN.{length, getD, drop};
+ghost use Rattle.lists.specs.Count.{atMost};
 ghost use Rattle.lists.specs.Tabulate.{tabulate};
 ghost use Rattle.model.specs.Rank.{smallest};
 ghost use Rattle.rank_search.specs.WindowAt.{windowAt};
-ghost use Rattle.rank_search.specs.Halving.{atMost, halved};
+ghost use Rattle.rank_search.specs.Halving.{halved};
 
 // A count, with one sample more.
 fn plus(seen: u8, sample: u8, trial: u8) -> u8
@@ -45,7 +46,7 @@ fn tally_row(row: &[u8], low: &[u8], step: u8, w: usize, across: usize, seen: &m
 
 // How many samples of each column's window of n rows are at most its trial level. The counts start at 0.
 fn tally_window(rows: &[u8], w: usize, r: usize, n: usize, low: &[u8], step: u8, seen: &mut [u8])
-    requires { ⌜ (w ≤ 8192) × (r ≤ 2) × (n ≤ 5) × (n * (w + 30) ≤ length (now rows)) × (w ≤ length (now low)) × (w ≤ length (now seen)) × ((u : ℕ) → u < w → getD (now low) u 0 + step ≤ 255) × ((u : ℕ) → u < w → getD (now seen) u 0 ≡ 0) ⌝ }
+    requires { ⌜ (w ≤ 8192) × (r ≤ 3) × (n ≤ 7) × (n * (w + 30) ≤ length (now rows)) × (w ≤ length (now low)) × (w ≤ length (now seen)) × ((u : ℕ) → u < w → getD (now low) u 0 + step ≤ 255) × ((u : ℕ) → u < w → getD (now seen) u 0 ≡ 0) ⌝ }
     ensures { λ _. ⌜ now (seen .exit) ≡ tabulate (λ u. atMost (getD (now (low .entry)) u 0 + step) (windowAt (now (rows .entry)) w r n u)) w ++ drop w (now (seen .entry)) ⌝ }
 {
     let across = 2 * r + 1;
@@ -89,7 +90,7 @@ fn halve(
     low: &mut [u8],
     seen: &mut [u8],
 )
-    requires { ⌜ (w ≤ 8192) × (r ≤ 2) × (n ≤ 5) × (n * (w + 30) ≤ length (now rows)) × (1 ≤ half) × (w ≤ length (now low)) × (w ≤ length (now seen)) × ((u : ℕ) → u < w → getD (now low) u 0 + half ≤ 255) ⌝ }
+    requires { ⌜ (w ≤ 8192) × (r ≤ 3) × (n ≤ 7) × (n * (w + 30) ≤ length (now rows)) × (1 ≤ half) × (w ≤ length (now low)) × (w ≤ length (now seen)) × ((u : ℕ) → u < w → getD (now low) u 0 + half ≤ 255) ⌝ }
     ensures { λ _. ⌜ now (low .exit) ≡ tabulate (λ u. halved p half (windowAt (now (rows .entry)) w r n u) (getD (now (low .entry)) u 0)) w ++ drop w (now (low .entry)) ⌝ }
 {
     buffers::fill_front(seen, w, 0);
@@ -99,7 +100,7 @@ fn halve(
 
 // The p-th smallest sample of each column's window of n rows: among 256 levels from 0 on, then among half as many, down to one.
 pub fn rank_row(rows: &[u8], w: usize, r: usize, n: usize, p: u8, dst: &mut [u8], seen: &mut [u8])
-    requires { ⌜ (w ≤ 8192) × (r ≤ 2) × (n ≤ 5) × (n * (w + 30) ≤ length (now rows)) × (1 ≤ p) × (p ≤ n * (2 * r + 1)) × (w ≤ length (now dst)) × (w ≤ length (now seen)) ⌝ }
+    requires { ⌜ (w ≤ 8192) × (r ≤ 3) × (n ≤ 7) × (n * (w + 30) ≤ length (now rows)) × (1 ≤ p) × (p ≤ n * (2 * r + 1)) × (w ≤ length (now dst)) × (w ≤ length (now seen)) ⌝ }
     ensures { λ _. ⌜ now (dst .exit) ≡ tabulate (λ u. smallest p (windowAt (now (rows .entry)) w r n u)) w ++ drop w (now (dst .entry)) ⌝ }
 {
     buffers::fill_front(dst, w, 0);

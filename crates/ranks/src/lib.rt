@@ -1,4 +1,5 @@
-// Rank stages: the p-th smallest sample of each window. Small windows are searched by halving, all columns of a row side by side; for others the counts of the grey levels are carried along the row.
+// Rank stages: the p-th smallest sample of each window. Windows of up to 7 by 7 are searched by halving, all columns of a row side by side; for others the
+// counts of the grey levels are carried along.
 use frame::Frame;
 use stage_values::Window;
 ghost use mathlib.Core.Path.{_≡_};
@@ -16,7 +17,7 @@ fn rank_kept(frame: Frame, window: Window, p: usize, work: &mut [u8])
 {
     let r = window.r;
     let s = window.s;
-    if r <= 2 && s <= 2 {
+    if r <= 3 && s <= 3 {
         small_ranks::rank_rows(frame, window, p, work);
     } else {
         carried_ranks::rank_rows(frame, window, p, work);

@@ -1,6 +1,6 @@
 -- Rows that are held one behind another: one more, one less, and the windows in them. Assumes nothing.
 use Prim.Native.Nat.{ℕ, _+_, _-_, _*_, _≤_, _<_}
-use native.Mathlib.Nat.{le-trans, eq-or-lt-of-le, mul-le-mul}
+use native.Mathlib.Nat.{le-trans, eq-or-lt-of-le}
 use native.Mathlib.Omega.{arith}
 use mathlib.Core.Path.{_≡_, ap, sym, _∙_}
 use mathlib.Core.Logic.{⊎-elim}
@@ -12,7 +12,7 @@ use Rattle.lists.proofs.Part.{tail-put}
 use Rattle.lists.proofs.Tabulate.{filled-at, entry-known, tabulate-ext}
 use Rattle.lists.proofs.Raster.{raster-ext, place-fits}
 use Rattle.lists.proofs.Stored.{StoredRows, rows-stored-more}
-use Rattle.model.specs.Window.{area, window}
+use Rattle.model.specs.Window.{window}
 use Rattle.model.specs.Rank.{smallest, rankResult}
 use Rattle.frame.specs.declared.Frame.{Frame}
 use Rattle.frame.specs.Framed.{neighbours}
@@ -72,7 +72,7 @@ module _ (f : Frame) (samples : List ℕ) where
     row-results p = tabulate-ext _ _ (f .width) (λ u b. ap (λ (l : List ℕ). smallest p l) (window-held u b))
 
   -- once the first window is whole, with slot 0 at place 15 - s, each row on gives a row of results
-  pub results-stored : (r s p y at : ℕ) {d l rows : List ℕ} (part : List ℕ) → r ≤ 2 → s ≤ 2 → 14 - s < y + 1 → y < 14 - s + f .height → f .height * f .width ≤ length d
+  pub results-stored : (r s p y at : ℕ) {d l rows : List ℕ} (part : List ℕ) → r ≤ 3 → s ≤ 3 → 14 - s < y + 1 → y < 14 - s + f .height → f .height * f .width ≤ length d
       → StoredRows (λ i j. rankResult r s p (neighbours f samples i j)) (f .width) (f .height) d l at (y - (14 - s))
       → HeldRows f samples (y + 1) (14 - s + 1 - (y + 1)) (2 * s + 1) rows
       → part ≡ tabulate (λ u. smallest p (windowAt rows (f .width) r (2 * s + 1) u)) (f .width) ++ drop (f .width) (take (length l - at) (drop at l))
@@ -91,11 +91,3 @@ pub held-next : (f : Frame) (d l : List ℕ) (first y n : ℕ) {rows next : List
 held-next f d l first y n same push h =
     let slots : first - y ≡ first + 1 - (y + 1) = omega arith in
     rw (← same, ← slots) (push (first - y) (held-fewer f (kept f l) (first + 1 - y) (first - y + 1) (omega arith) (rw same h)))
-
--- a small window has at most 5 by 5 samples
-pub area-small : (r s : ℕ) → r ≤ 2 → s ≤ 2 → area r s ≤ 25
-unfolding area
-area-small r s h k =
-    let across : 2 * r + 1 ≤ 5 = omega arith in
-    let down : 2 * s + 1 ≤ 5 = omega arith in
-    mul-le-mul across down

@@ -26,7 +26,7 @@ fn move_up(rows: &mut [u8], n: usize, stride: usize)
 
 // One row on: every row moves up by one slot, and the next is made in slot `last`. Slot 0 was at place y.
 fn push_row(frame: Frame, work: &[u8], y: usize, last: usize, rows: &mut [u8])
-    requires { ⌜ Framed frame (kept frame (now work)) × (y ≤ 8300) × (last ≤ 4) × ((last + 1) * (frame .width + 30) ≤ length (now rows)) ⌝ }
+    requires { ⌜ Framed frame (kept frame (now work)) × (y ≤ 8300) × (last ≤ 6) × ((last + 1) * (frame .width + 30) ≤ length (now rows)) ⌝ }
     ensures { λ _. ⌜ ((k : ℕ) → HeldRows frame (kept frame (now (work .entry))) y (k + 1) (last + 1) (now (rows .entry)) → HeldRows frame (kept frame (now (work .entry))) (y + 1) k (last + 1) (now (rows .exit))) ⌝ }
 {
     let stride = frame.width + 30;
@@ -46,7 +46,7 @@ fn write_rows(
     rows: &mut [u8],
     seen: &mut [u8],
 )
-    requires { ⌜ Framed frame (kept frame (now work)) × (r ≤ 2) × (s ≤ 2) × (1 ≤ p) × (p ≤ area r s) × ((2 * s + 1) * (frame .width + 30) ≤ length (now rows)) × (frame .width ≤ length (now seen)) ⌝ }
+    requires { ⌜ Framed frame (kept frame (now work)) × (r ≤ 3) × (s ≤ 3) × (1 ≤ p) × (p ≤ area r s) × ((2 * s + 1) * (frame .width + 30) ≤ length (now rows)) × (frame .width ≤ length (now seen)) ⌝ }
     ensures { λ _. ⌜ take (frame .height * frame .width) (now (work .exit)) ≡ worked frame (rankResult r s p) (kept frame (now (work .entry))) ⌝ }
 {
     let w = frame.width;
@@ -67,10 +67,11 @@ fn write_rows(
 
 // A rank stage of a small window, from the plane that is kept in `work`, into the one at its front.
 pub fn rank_rows(frame: Frame, window: Window, p: usize, work: &mut [u8])
-    requires { ⌜ Framed frame (kept frame (now work)) × (window .r ≤ 2) × (window .s ≤ 2) × (1 ≤ p) × (p ≤ area (window .r) (window .s)) ⌝ }
+    requires { ⌜ Framed frame (kept frame (now work)) × (window .r ≤ 3) × (window .s ≤ 3) × (1 ≤ p) × (p ≤ area (window .r) (window .s)) ⌝ }
     ensures { λ _. ⌜ take (frame .height * frame .width) (now (work .exit)) ≡ worked frame (rankResult (window .r) (window .s) p) (kept frame (now (work .entry))) ⌝ }
 {
-    let mut rows = [0u8; 41110];
+    // seven rows of 8,192 samples, with 15 more on each side
+    let mut rows = [0u8; 57554];
     let mut seen = [0u8; 8192];
     write_rows(
         frame,

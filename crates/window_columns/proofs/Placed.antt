@@ -16,14 +16,14 @@ use Rattle.lists.proofs.Tabulate.{length-tabulate, tabulate-ext, tabulate-last,
 use Rattle.lists.proofs.Raster.{row-fits}
 use Rattle.lists.proofs.Count.{count-length}
 use Rattle.model.specs.Plane.{planeOf, pick}
-use Rattle.model_laws.proofs.Border.{Inside as Within, supply-inside}
+use Rattle.model_laws.proofs.Border.{Inside, supply-inside}
 use Rattle.stage_values.specs.Stands.{borderIs}
 use Rattle.places.specs.Supplied.{placeOf}
 use Rattle.frame.specs.declared.Frame.{Frame}
 use Rattle.frame.specs.Framed.{Framed}
 use Rattle.frame.specs.Padded.{columnAt, rowAt, padded}
 use Rattle.histograms.specs.Histogram.{atLevel, belowLevel}
-use Rattle.histograms.specs.Column.{columnOf, Inside}
+use Rattle.histograms.specs.Column.{columnOf, ColumnInside}
 use Rattle.lists.proofs.CountParts.{count-append, count-alike, count-no-columns, count-column}
 use Rattle.lists.proofs.Sums.{count-more, count-none}
 use Rattle.window_columns.specs.Rows.{startOf, rowStarts, Rows}
@@ -54,12 +54,16 @@ module _ (f : Frame) (plane rows : List ℕ) (down x : ℕ) where
       go none = length-replicate down (f .value)
       go (some c) = rw (length-append, length-replicate, length-inside plane rows c) (omega arith)
 
+  -- no more of its samples are below a level than it has
+  pub below-le : (g : ℕ) → length rows ≤ down → belowLevel g (columnIn f plane rows down x) ≤ down
+  below-le g h = omega (arith, count-length (λ y. ltb y g) (columnIn f plane rows down x), length-column h)
+
 -- a row at a place is at most the height
 pub row-le : {v : ℕ} (f : Frame) (y : ℕ) → 1 ≤ f .height → v ≡ placeOf (f .height) (rowAt f y) → v ≤ f .height
 unfolding placeOf
 row-le {v} f y h e = go (rowAt f y) (supply-inside (borderIs (f .border)) (f .height) _ h) e
   where
-    go : (o : Option ℕ) → Within (f .height) o → v ≡ placeOf (f .height) o → v ≤ f .height
+    go : (o : Option ℕ) → Inside (f .height) o → v ≡ placeOf (f .height) o → v ≤ f .height
     go none i q = omega arith
     go (some k) i q = omega arith
 
@@ -75,7 +79,7 @@ pub front-counted : (g n : ℕ) (xs ys : List ℕ) → atLevel g (xs ++ ys) ≤ 
 front-counted g n xs ys h = omega (arith, count-append (λ x. eqb x g) xs ys)
 
 -- all samples of a column inside are in the plane
-pub rows-inside : (f : Frame) (plane rows : List ℕ) (down c : ℕ) → Rows f plane down rows → c < f .width → Inside plane rows c
+pub rows-inside : (f : Frame) (plane rows : List ℕ) (down c : ℕ) → Rows f plane down rows → c < f .width → ColumnInside plane rows c
 rows-inside f plane rows down c r h k l = omega (arith, r .whole k l)
 
 -- ---- rows
@@ -124,7 +128,7 @@ module _ (f : Frame) (y : ℕ) where
     starts-whole zero = λ k h. absurd (omega arith)
     starts-whole (suc j) = each-append (λ (start : ℕ). start + f .width ≤ length plane) (rowStarts f y j) _ (starts-whole j) (go (rowAt f (y + j)) (supply-inside (borderIs (f .border)) (f .height) _ (framed .height .0)))
       where
-        go : (o : Option ℕ) → Within (f .height) o → (k : ℕ) → k < length (startOf (f .width) o) → getD (startOf (f .width) o) k 0 + f .width ≤ length plane
+        go : (o : Option ℕ) → Inside (f .height) o → (k : ℕ) → k < length (startOf (f .width) o) → getD (startOf (f .width) o) k 0 + f .width ≤ length plane
         go none i k l = absurd (omega arith)
         go (some v) i zero l = rw (framed .whole) (row-fits v (f .height) (f .width) i)
         go (some v) i (suc k) l = absurd (omega arith)

@@ -35,7 +35,7 @@ module _ (column : ℕ → List ℕ) where
   first-le p x zero h = absurd (omega arith)
   first-le p x (suc n) h = omega (arith, first-apart p x n)
 
-  pub length-columns : (d x n : ℕ) → ((z : ℕ) → length (column z) ≡ d) → length (sideBySide column x n) ≡ n * d
+  length-columns : (d x n : ℕ) → ((z : ℕ) → length (column z) ≡ d) → length (sideBySide column x n) ≡ n * d
   unfolding sideBySide
   length-columns d x zero h = omega arith
   length-columns d x (suc n) h = rw (length-append, length-columns d x n h, h (x + n)) (omega arith)
@@ -75,11 +75,16 @@ module _ (column : ℕ → List ℕ) where
         at : (g : ℕ) → g < 256 → getD m g 0 ≡ atLevel g (sideBySide column (x + 1) n)
         at g k = omega (arith, ap (λ (a : List ℕ). getD a g 0) e, ap (λ (a : List ℕ). getD a g 0) q, ap (λ (a : List ℕ). getD a g 0) r, getD-histogram (sideBySide column x n) g k, getD-counted c (column x) g k, getD-counted c (column (x + n)) g k, slide (λ y. eqb y g) x n)
 
-    -- so many are below a level then
-    pub next-below : (m : List ℕ) (g below fewer more : ℕ) → g < 256 → 1 ≤ n → m ≡ histogram (sideBySide column (x + 1) n) → below ≡ total l g
-        → fewer ≡ belowLevel g (column x) → more ≡ belowLevel g (column (x + n))
-        → (fewer ≤ below) × (below - fewer + more ≡ total m g)
-    next-below m g below fewer more k h r b f o =
-        let was : below ≡ belowLevel g (sideBySide column x n) = b ∙ ap (λ (a : List ℕ). total a g) e ∙ total-below (sideBySide column x n) g (omega arith) in
-        let will : total m g ≡ belowLevel g (sideBySide column (x + 1) n) = ap (λ (a : List ℕ). total a g) r ∙ total-below (sideBySide column (x + 1) n) g (omega arith) in
-        (omega (arith, first-le (λ y. ltb y g) x n h), omega (arith, slide (λ y. ltb y g) x n, first-le (λ y. ltb y g) x n h))
+    module _ (g below fewer : ℕ) (k : g < 256) (h : 1 ≤ n) (b : below ≡ total l g) (f : fewer ≡ belowLevel g (column x)) where
+      was : below ≡ belowLevel g (sideBySide column x n)
+      was = b ∙ ap (λ (a : List ℕ). total a g) e ∙ total-below (sideBySide column x n) g (omega arith)
+
+      -- the first column's samples below a level are among them
+      pub leaving-le : fewer ≤ below
+      leaving-le = omega (arith, was, first-le (λ y. ltb y g) x n h)
+
+      -- so many are below it one place on
+      pub next-below : (m : List ℕ) (more : ℕ) → m ≡ histogram (sideBySide column (x + 1) n) → more ≡ belowLevel g (column (x + n)) → below - fewer + more ≡ total m g
+      next-below m more r o =
+          let will : total m g ≡ belowLevel g (sideBySide column (x + 1) n) = ap (λ (a : List ℕ). total a g) r ∙ total-below (sideBySide column (x + 1) n) g (omega arith) in
+          omega (arith, was, slide (λ y. ltb y g) x n, first-le (λ y. ltb y g) x n h)

@@ -32,7 +32,7 @@ fn column_at(frame: Frame, x: usize) -> usize
     places::place(border, w, x)
 }
 
-// Where the rows inside start, of so many from place y on. How many they are.
+// Of `down` rows from place y on, where those inside start, and how many these are. The start of one outside is stored over.
 pub fn place_rows(frame: Frame, y: usize, down: usize, rows: &mut [usize]) -> usize
     requires { ⌜ (1 ≤ frame .height) × (frame .height ≤ 8192) × (frame .width ≤ 8192) × (y ≤ 8300) × (down ≤ 31) × (down ≤ length (now rows)) ⌝ }
     ensures { λ n. ⌜ (n ≤ down) × (take n (now (rows .exit)) ≡ rowStarts frame y down) ⌝ }
@@ -76,7 +76,7 @@ fn enter(
     inside + outside
 }
 
-// The column at place x taken off, so that the counts before are those after with the column counted too. How many of its samples are below a level.
+// The column at place x taken off: the counts before are those after with the column counted too. How many of its samples are below a level.
 fn leave(
     frame: Frame,
     plane: &[u8],
@@ -116,12 +116,14 @@ pub fn count_window(
     histograms::clear(counts);
     let mut i = 0;
     while i < across {
+        // no level is carried yet, and no sample is below 0
         enter(frame, plane, rows, down, x + i, 0, counts);
         i += 1;
     }
 }
 
-// The counts of the window whose first column is at place x, from those of the one before: its first column leaves, and the one behind its last enters. The level stays, with how many samples are below it now.
+// The counts of the window whose first column is at place x, from those of the one before: its first column leaves, and the one behind its last enters. The
+// level stays, with how many samples are below it now.
 pub fn next_window(
     frame: Frame,
     plane: &[u8],

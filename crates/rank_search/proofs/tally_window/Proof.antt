@@ -22,7 +22,7 @@ abbrev μ-loop : tie.MeasureT-loop
 
 -- the next row of every window is inside the buffer
 room : (c : tie.In-loop Inv-loop μ-loop) → let a = c .before .before .before .before .before .args in
-    (c .before .loop .at + (a .w + (2 * a .r + 1)) ≤ length (now (a .rows))) × (c .before .loop .at + (a .w + 30) ≤ 41125)
+    (c .before .loop .at + (a .w + (2 * a .r + 1)) ≤ length (now (a .rows))) × (c .before .loop .at + (a .w + 30) ≤ 57569)
 room c =
     let a = c .before .before .before .before .before .args in
     let p = c .before .before .before .before .before .pre in
@@ -60,7 +60,7 @@ tally-row-requires c κs =
     let a = c .before .before .before .before .before .before .before .args in
     let p = c .before .before .before .before .before .before .before .pre in
     let L = c .before .before .before .loop in
-    let few : L .j ≤ 4 = omega (arith, c .before .before .loop-test .taken, p .2) in
+    let few : L .j ≤ 6 = omega (arith, c .before .before .loop-test .taken, p .2) in
     (rw (tail-mid (L .at) (now (a .rows)), length-drop) (omega (arith, room (c .before .before))), p .4, omega (arith, p .5, L .inv .3), p .6, over-fits (now (a .rows)) (now (a .seen)) _ (a .w) (a .r) (L .j) (L .seen) (p .1) few (L .inv .2))
 
 add-at : tie.Need-add-at Inv-loop μ-loop

@@ -12,8 +12,8 @@ use Rattle.small_ranks.proofs.push_row.Statement.{statement}
 use Rattle.small_ranks.proofs.push_row.Tie as tie
 
 -- the last row is inside the buffer
-room : (c : tie.Start) → let at = c .args .last * (c .args .frame .width + 30) in (at + (c .args .frame .width + 30) ≤ length (now (c .args .rows))) × (at ≤ 32888)
-room c = (omega (arith, c .pre .3), mul-le-mul {n₂ = 4} {m₂ = 8222} (c .pre .2) (omega (arith, c .pre .0 .width .1)))
+room : (c : tie.Start) → let at = c .args .last * (c .args .frame .width + 30) in (at + (c .args .frame .width + 30) ≤ length (now (c .args .rows))) × (at ≤ 49332)
+room c = (omega (arith, c .pre .3), mul-le-mul {n₂ = 6} {m₂ = 8222} (c .pre .2) (omega (arith, c .pre .0 .width .1)))
 
 add-stride : tie.Need-add-stride
 add-stride c = search needs

@@ -1,19 +1,19 @@
--- `small_ranks::rank_rows` meets its contract: five of the widest rows are the whole buffer, and p is at most 25. Assumes nothing.
+-- `small_ranks::rank_rows` meets its contract: seven of the widest rows are the whole buffer, and p is at most 49. Assumes nothing.
 use Prim.Native.Nat.{ℕ, _+_, _*_, _≤_}
 use native.Mathlib.Nat.{mul-le-mul}
 use native.Mathlib.Omega.{arith}
 use mathlib.Core.Path.{refl}
-use Rattle.small_ranks.proofs.Rows.{area-small}
+use Rattle.model_laws.proofs.Window.{area-le}
 use Rattle.small_ranks.proofs.rank_rows.Statement.{statement}
 use Rattle.small_ranks.proofs.rank_rows.Tie as tie
 
-rows-fit : {s w : ℕ} → s ≤ 2 → w ≤ 8192 → (2 * s + 1) * (w + 30) ≤ 41110
-rows-fit {s} {w} h k = mul-le-mul {n₂ = 5} {m₂ = 8222} (omega arith) (omega arith)
+rows-fit : {s w : ℕ} → s ≤ 3 → w ≤ 8192 → (2 * s + 1) * (w + 30) ≤ 57554
+rows-fit {s} {w} h k = mul-le-mul {n₂ = 7} {m₂ = 8222} (omega arith) (omega arith)
 
 cast-write-rows : tie.Need-cast-write-rows
 cast-write-rows c =
     let p = c .before .pre in
-    omega (arith, p .4, area-small (c .before .args .window .r) (c .before .args .window .s) (p .1) (p .2))
+    omega (arith, p .4, area-le (c .before .args .window .r) (c .before .args .window .s) 3 3 (p .1) (p .2))
 
 slice-aggregate-write-rows : tie.Need-slice-aggregate-write-rows
 slice-aggregate-write-rows c = refl
