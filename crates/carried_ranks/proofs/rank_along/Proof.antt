@@ -1,4 +1,4 @@
--- `carried_ranks::rank_along` meets its contract: the samples stored so far, in place of what was there; the plane behind is as it was; the counts are those of the next sample's window, and so many samples are below the level that is carried along. Assumes nothing.
+-- `carried_ranks::rank_along` meets its contract: the samples stored so far, in place of what was there; the plane behind is as it was; what is counted is the window of the sample that comes next, and so many of its samples are below the level that is carried along. Assumes nothing.
 use Prim.Native.Nat.{_+_, _-_, _*_, _≤_, _<_}
 use native.Mathlib.Nat.{le-antisymm}
 use native.Mathlib.Omega.{arith}
