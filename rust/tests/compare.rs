@@ -323,6 +323,29 @@ fn ranks_are_filtered_alike() {
     }
 }
 
+/// Every frame of up to 16 a side, which an offset may leave by 15 lengths, under every border: windows of 31 by 31, and thirds at -15 and 15.
+#[test]
+fn short_axes_are_filtered_alike() {
+    const THIRDS: [u8; 18] = [2, 2, 0, 3, 0, 3, 241, 15, 241, 15, 0, 1, 0, 2, 0, 2, 0, 1];
+    let works: [(u8, &[u8]); 4] = [
+        (1, &THIRDS),
+        (3, &[15, 15]),
+        (4, &[15, 15]),
+        (5, &[15, 15, 1, 225]),
+    ];
+    let mut rng = Rng::new(support::base_seed());
+    for (w, h) in (1..=16).flat_map(|w| (1..=16).map(move |h| (w, h))) {
+        let plane = inputs::samples(&mut rng, w * h);
+        for border in 0..4 {
+            for (kind, fields) in works {
+                let recipe = [&[1, kind, border, 0], fields].concat();
+                let need = reference::needs(&reference::read_recipe(&recipe).unwrap(), w, h, w * h);
+                calls::filter_plane(&mut rng, &recipe, w, h, &plane, need).unwrap();
+            }
+        }
+    }
+}
+
 /// The samples of this frame have a sum above 2^32.
 #[test]
 fn a_bright_large_frame_is_filtered_alike() {

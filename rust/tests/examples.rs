@@ -69,6 +69,37 @@ fn bench_stills() {
     assert_eq!(hejslopi::read_recipe(&two).unwrap().tolerance, 67579);
 }
 
+/// A stage of ratios, mirror: 1/1 at one offset across and at one down.
+fn taken_from(across: i8, down: i8) -> Vec<u8> {
+    [
+        &[1, 1, 2, 0, 1, 1, 0, 1, 0, 1][..],
+        &[across as u8, down as u8],
+        &[0, 1, 0, 1],
+    ]
+    .concat()
+}
+
+/// Request 2026-04: a short row or column goes there and back, over and over, as far as an offset reaches. At -4 of 10 30 is 10.
+#[test]
+fn short_axes_are_mirrored_again_and_again() {
+    let periods: [&[u8]; 3] = [&[10, 10], &[10, 30, 30, 10], &[10, 20, 40, 40, 20, 10]];
+    for there_and_back in periods {
+        let n = there_and_back.len() / 2;
+        let samples = &there_and_back[..n];
+        for offset in -15..=15 {
+            let from = i64::from(offset).rem_euclid(2 * n as i64) as usize;
+            let supplied = there_and_back.iter().copied().cycle().skip(from);
+            let expected: Vec<u8> = supplied.take(n).collect();
+            let row = hejslopi::filter_plane(&taken_from(offset, 0), n, 1, samples);
+            assert_eq!(row.unwrap().samples, expected, "{samples:?} at {offset}");
+            let column = hejslopi::filter_plane(&taken_from(0, offset), 1, n, samples);
+            assert_eq!(column.unwrap().samples, expected, "{samples:?} at {offset}");
+        }
+    }
+    let at_minus_4 = hejslopi::filter_plane(&taken_from(-4, 0), 2, 1, &[10, 30]);
+    assert_eq!(at_minus_4.unwrap().samples, [10, 30]);
+}
+
 /// One row: with nearest, mirror and wrap it stands above and below too, so its difference counts three times; with a constant of 0 once.
 #[test]
 fn outlines_of_a_row() {

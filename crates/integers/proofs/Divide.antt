@@ -1,11 +1,12 @@
 -- Laws of quotients, remainders and the clamp. Assumes nothing.
-use Prim.Native.Nat.{ℕ, suc, _+_, _*_, _-_, _/_, _<_, _≤_}
-use mathlib.Core.Path.{_≡_}
+use Prim.Native.Nat.{ℕ, suc, _+_, _*_, _-_, _/_, _%_, _<_, _≤_}
+use mathlib.Core.Path.{_≡_, sym, ap, _∙_}
 use native.Mathlib.Nat.{div-add-mod, mod-lt, min-eq-left, lt-of-mul-lt-mul-left}
 use native.Mathlib.Omega.{arith}
+use lib.Arith.{digits-div, digits-mod}
 use lib.IntN.{ℤ, pos, negsuc}
 use Rattle.integers.specs.Divide.{floorDiv, modulo, ceilDiv, clamp}
-use Rattle.integers.proofs.Parts.{posPart, negPart}
+use Rattle.integers.proofs.Parts.{posPart, negPart, parts-ext}
 
 -- z = m q + r, r < m
 pub record Divided (z : ℤ) (m : ℕ) (q : ℤ) (r : ℕ) : Type 0 where
@@ -16,6 +17,14 @@ pub divided : (z : ℤ) (m : ℕ) → 0 < m → Divided z m (floorDiv z m) (modu
 unfolding modulo
 divided (pos a) m h = record { whole = omega (arith, div-add-mod a m); small = mod-lt a h }
 divided (negsuc a) m h = record { whole = omega (arith, div-add-mod a m, mod-lt a h); small = omega (arith, mod-lt a h) }
+
+-- a quotient and a remainder are the only ones
+pub divided-unique : {z : ℤ} {m : ℕ} {q q′ : ℤ} {r r′ : ℕ} → Divided z m q r → Divided z m q′ r′ → (q ≡ q′) × (r ≡ r′)
+divided-unique {z} {m} {q} {q′} {r} {r′} d e =
+    let same : (posPart q + negPart q′) * m + r ≡ (posPart q′ + negPart q) * m + r′ = omega (arith, d .whole, e .whole) in (
+      parts-ext q q′ (sym (digits-div (posPart q + negPart q′) (d .small)) ∙ ap (λ (n : ℕ). n / m) same ∙ digits-div (posPart q′ + negPart q) (e .small)),
+      sym (digits-mod (posPart q + negPart q′) (d .small)) ∙ ap (λ (n : ℕ). n % m) same ∙ digits-mod (posPart q′ + negPart q) (e .small),
+    )
 
 -- m q ≤ z < m q + m
 pub record Floor (z : ℤ) (m : ℕ) (q : ℤ) : Type 0 where

@@ -3,7 +3,7 @@ use Prim.Native.Nat.{ℕ, _*_, _-_, min}
 use mathlib.Core.Bool.{cond}
 use mathlib.Core.Option.{Option, none, some}
 use lib.Dec.{ltb}
-use lib.IntN.{ℤ, pos, negsuc, _-ℤ_}
+use lib.IntN.{ℤ, pos, negsuc}
 use Rattle.integers.specs.Divide.{modulo}
 
 -- the four borders, with the numbers 0 to 3 in this order
@@ -20,15 +20,13 @@ unfoldable pub closest : ℕ → ℤ → ℕ
 closest n (pos k) = min k (n - 1)
 closest n (negsuc k) = 0
 
--- mirror, once, the edge sample twice in a row: -1, -2, .. become 0, 1, .., and x past the end becomes 2n - 1 - x
-unfoldable pub reflected : ℕ → ℤ → ℤ
-reflected n (negsuc k) = pos k
-reflected n (pos k) = cond (ltb k n) (pos k) (pos (2 * n - 1) -ℤ pos k)
+-- mirror, of 0 to 2n - 1: from n on they become 2n - 1 less themselves and run back, so the edge sample comes twice in a row
+unfoldable pub folded : ℕ → ℕ → ℕ
+folded n m = cond (ltb m n) m (2 * n - 1 - m)
 
--- the index that stands in for x on this axis; none stands for the border value.
--- Mirror reflects once: a reflected index that is not inside either goes to the end that it lies beyond. Wrap is x modulo n
+-- the index that stands in for x on this axis; none stands for the border value. Mirror has period 2n, and wrap n
 unfoldable pub supply : Border → ℕ → ℤ → Option ℕ
 supply constant n x = inside n x
 supply nearest n x = some (closest n x)
-supply mirror n x = some (closest n (reflected n x))
+supply mirror n x = some (folded n (modulo x (2 * n)))
 supply wrap n x = some (modulo x n)

@@ -5,12 +5,13 @@ use Prim.Native.Nat.{ℕ, _^_}
 use Prim.Native.String.{String}
 use mathlib.Core.List.{List, [], _∷_, _++_, map}
 use mathlib.Core.Path.{_≡_, refl}
+use lib.ListN.{length}
 use lib.IntN.{ℤ, pos, negℤ, _-ℤ_}
 use Rattle.integers.specs.Divide.{modulo, ceilDiv, clamp}
 use Rattle.integers.specs.Sum.{sum, sumℤ}
 use Rattle.lists.specs.Count.{count}
 use Rattle.lists.specs.Tabulate.{tabulate, raster}
-use Rattle.model.specs.Border.{Border, constant, nearest, mirror, wrap, inside, closest, reflected, supply}
+use Rattle.model.specs.Border.{Border, constant, nearest, mirror, wrap, inside, closest, folded, supply}
 use Rattle.model.specs.Plane.{planeOf, around, pick}
 use Rattle.model.specs.Kernel.{Kernel, tap, kernel, weightedSum, total, magnitude}
 use Rattle.model.specs.Binomial.{binomial, pairSums, pascalRow, choose}
@@ -54,9 +55,9 @@ apportioned K = weights (map (λ t. t .weight) (apportion K))
 unfoldable pub toleranceOf : List Work → ℕ
 toleranceOf ws = tolerance (map (λ w. stage nearest 0 w) ws)
 
--- the samples that a row of three, 10 20 40, supplies at columns -5 to 7, with border value 99
-unfoldable pub supplied : Border → Answer
-supplied b = samples (tabulate (λ k. around b 99 3 1 (planeOf 3 (10 ∷ 20 ∷ 40 ∷ [])) 0 0 (pos k -ℤ pos 5) (pos 0)) 13)
+-- the samples that a plane of one row supplies at columns -5 to 7, with border value 99
+unfoldable pub supplied : Border → List ℕ → Answer
+supplied b xs = samples (tabulate (λ k. around b 99 (length xs) 1 (planeOf (length xs) xs) 0 0 (pos k -ℤ pos 5) (pos 0)) 13)
 
 -- -n
 unfoldable pub minus : ℕ → ℤ
@@ -100,16 +101,16 @@ alone D a = kernel D (tap (pos 0) a ∷ [])
 unfoldable pub quadruple : Work
 quadruple = weighted (alone 1 (pos 4)) (alone 1 (pos 4))
 
--- a tap 1/1 one row up
-unfoldable pub above : Kernel
-above = kernel 1 (tap (minus 1) (pos 1) ∷ [])
+-- a tap 1/1 k columns to the left, or k rows up
+unfoldable pub back : ℕ → Kernel
+back k = kernel 1 (tap (minus k) (pos 1) ∷ [])
 
 -- Worked by hand:
--- mirror: -1 -2 -3 become 0 1 2, and -4 -5 become 3 4, outside too, to which 2 is closest; 3 4 5 become 2 1 0, and 6 7 become -1 -2, to which 0 is closest;
+-- mirror: there and back, 10 20 40 40 20 10, over and over; -5 is 1 modulo 6, and so is 7. Of two, 10 30 30 10, and -4 is 0 modulo 4; of one, always that one;
 -- wrap: -5 is 1 modulo 3, and 7 is 1;
 -- box, nearest: the corner (0, 0) has its own row and column twice, (4·10 + 2·20 + 2·30 + 40) / 9 = 20, and 210/9 = 23.3, 240/9 = 26.7, 270/9 = 30 follow;
 -- box, constant 100: each window has the whole plane and five samples of 100, 600/9 = 66.7; box, wrap: the other row and column twice, 10 + 2·20 + 2·30 + 4·40 = 270;
--- the row above the first is the border value's, or the last row;
+-- the row above the first is the border value's, or the last row. Four rows up, or four columns left, of 10 30 are -4 and -3, which are 0 and 1 modulo 4;
 -- 1 and 2 over 3: (10 + 2·40) / 3 = 30. The weights are 21,845 1/3 and 43,690 2/3, and the one unit goes to the second;
 -- halves across and down: (12.5 + 12) / 2 = 12.25, since row values keep their fractions; -1 across and -1 down: the row value -20 is kept;
 -- -1/128 across, -1 down: 63 gives -31.5 64ths, rounded up to -31, and 31/64 is nearest to 0;
@@ -121,15 +122,18 @@ above = kernel 1 (tap (minus 1) (pos 1) ∷ [])
 -- exact: 50/4 = 12.5; 40/3; the middle one; 10/2 and 30/2; -20/2, -30/2 and -10/2 are clamped, and so is 800; box twice, where the border value 100 enters as 300 thirds.
 unfoldable pub details : List Example
 details =
-    row "constant" (supplied constant) (samples (99 ∷ 99 ∷ 99 ∷ 99 ∷ 99 ∷ 10 ∷ 20 ∷ 40 ∷ 99 ∷ 99 ∷ 99 ∷ 99 ∷ 99 ∷ []))
-    ∷ row "nearest" (supplied nearest) (samples (10 ∷ 10 ∷ 10 ∷ 10 ∷ 10 ∷ 10 ∷ 20 ∷ 40 ∷ 40 ∷ 40 ∷ 40 ∷ 40 ∷ 40 ∷ []))
-    ∷ row "mirror" (supplied mirror) (samples (40 ∷ 40 ∷ 40 ∷ 20 ∷ 10 ∷ 10 ∷ 20 ∷ 40 ∷ 40 ∷ 20 ∷ 10 ∷ 10 ∷ 10 ∷ []))
-    ∷ row "wrap" (supplied wrap) (samples (20 ∷ 40 ∷ 10 ∷ 20 ∷ 40 ∷ 10 ∷ 20 ∷ 40 ∷ 10 ∷ 20 ∷ 40 ∷ 10 ∷ 20 ∷ []))
+    row "constant" (supplied constant (10 ∷ 20 ∷ 40 ∷ [])) (samples (99 ∷ 99 ∷ 99 ∷ 99 ∷ 99 ∷ 10 ∷ 20 ∷ 40 ∷ 99 ∷ 99 ∷ 99 ∷ 99 ∷ 99 ∷ []))
+    ∷ row "nearest" (supplied nearest (10 ∷ 20 ∷ 40 ∷ [])) (samples (10 ∷ 10 ∷ 10 ∷ 10 ∷ 10 ∷ 10 ∷ 20 ∷ 40 ∷ 40 ∷ 40 ∷ 40 ∷ 40 ∷ 40 ∷ []))
+    ∷ row "mirror" (supplied mirror (10 ∷ 20 ∷ 40 ∷ [])) (samples (20 ∷ 40 ∷ 40 ∷ 20 ∷ 10 ∷ 10 ∷ 20 ∷ 40 ∷ 40 ∷ 20 ∷ 10 ∷ 10 ∷ 20 ∷ []))
+    ∷ row "mirror, two samples" (supplied mirror (10 ∷ 30 ∷ [])) (samples (10 ∷ 10 ∷ 30 ∷ 30 ∷ 10 ∷ 10 ∷ 30 ∷ 30 ∷ 10 ∷ 10 ∷ 30 ∷ 30 ∷ 10 ∷ []))
+    ∷ row "mirror, one sample" (supplied mirror (10 ∷ [])) (samples (10 ∷ 10 ∷ 10 ∷ 10 ∷ 10 ∷ 10 ∷ 10 ∷ 10 ∷ 10 ∷ 10 ∷ 10 ∷ 10 ∷ 10 ∷ []))
+    ∷ row "wrap" (supplied wrap (10 ∷ 20 ∷ 40 ∷ [])) (samples (20 ∷ 40 ∷ 10 ∷ 20 ∷ 40 ∷ 10 ∷ 20 ∷ 40 ∷ 10 ∷ 20 ∷ 40 ∷ 10 ∷ 20 ∷ []))
     ∷ row "box 1,1 on 10 20 / 30 40, nearest" (filtered 2 2 nearest 0 (box 1 1) (10 ∷ 20 ∷ 30 ∷ 40 ∷ [])) (samples (20 ∷ 23 ∷ 27 ∷ 30 ∷ []))
     ∷ row "box 1,1 on 10 20 / 30 40, constant 100" (filtered 2 2 constant 100 (box 1 1) (10 ∷ 20 ∷ 30 ∷ 40 ∷ [])) (samples (67 ∷ 67 ∷ 67 ∷ 67 ∷ []))
     ∷ row "box 1,1 on 10 20 / 30 40, wrap" (filtered 2 2 wrap 0 (box 1 1) (10 ∷ 20 ∷ 30 ∷ 40 ∷ [])) (samples (30 ∷ 27 ∷ 23 ∷ 20 ∷ []))
-    ∷ row "the row above, constant 7" (filtered 1 3 constant 7 (weighted one above) (10 ∷ 20 ∷ 40 ∷ [])) (samples (7 ∷ 10 ∷ 20 ∷ []))
-    ∷ row "the row above, wrap" (filtered 1 3 wrap 0 (weighted one above) (10 ∷ 20 ∷ 40 ∷ [])) (samples (40 ∷ 10 ∷ 20 ∷ []))
+    ∷ row "the row above, constant 7" (filtered 1 3 constant 7 (weighted one (back 1)) (10 ∷ 20 ∷ 40 ∷ [])) (samples (7 ∷ 10 ∷ 20 ∷ []))
+    ∷ row "the row above, wrap" (filtered 1 3 wrap 0 (weighted one (back 1)) (10 ∷ 20 ∷ 40 ∷ [])) (samples (40 ∷ 10 ∷ 20 ∷ []))
+    ∷ row "four rows up, mirror" (filtered 1 2 mirror 0 (weighted one (back 4)) (10 ∷ 30 ∷ [])) (samples (10 ∷ 30 ∷ []))
     ∷ row "1 2 over 3 at 0 1" (filtered 2 1 nearest 0 (weighted (two 3 (pos 1) (pos 2)) one) (10 ∷ 40 ∷ [])) (samples (30 ∷ 40 ∷ []))
     ∷ row "1 2 over 3" (apportioned (two 3 (pos 1) (pos 2))) (weights (pos 21845 ∷ pos 43691 ∷ []))
     ∷ row "halves at 0 1, across and down" (filtered 2 2 nearest 0 (weighted (two 2 (pos 1) (pos 1)) (two 2 (pos 1) (pos 1))) (12 ∷ 13 ∷ 12 ∷ 12 ∷ [])) (samples (12 ∷ 13 ∷ 12 ∷ 12 ∷ []))
@@ -153,6 +157,7 @@ details =
     ∷ row "exact -1 0 1 over 2" (exactly 3 1 (stage nearest 0 (weighted (three 2 (minus 1) (pos 0) (pos 1)) one) ∷ []) (10 ∷ 20 ∷ 40 ∷ [])) (fractions 2 (10 ∷ 30 ∷ 20 ∷ []))
     ∷ row "exact -1 0 1 over 2, on 40 20 10" (exactly 3 1 (stage nearest 0 (weighted (three 2 (minus 1) (pos 0) (pos 1)) one) ∷ []) (40 ∷ 20 ∷ 10 ∷ [])) (fractions 2 (0 ∷ 0 ∷ 0 ∷ []))
     ∷ row "exact 4 over 1 on 200" (exactly 1 1 (stage nearest 0 (weighted (alone 1 (pos 4)) one) ∷ []) (200 ∷ [])) (fractions 1 (255 ∷ []))
+    ∷ row "exact, four columns left, mirror" (exactly 2 1 (stage mirror 0 (weighted (back 4) one) ∷ []) (10 ∷ 30 ∷ [])) (fractions 1 (10 ∷ 30 ∷ []))
     ∷ row "exact box, then box with constant 100"
     (exactly 3 1 (stage nearest 0 (box 1 0) ∷ stage constant 100 (box 1 0) ∷ []) (10 ∷ 20 ∷ 40 ∷ []))
     (fractions 9 (410 ∷ 210 ∷ 470 ∷ []))
@@ -193,7 +198,7 @@ outlines =
 
 -- every definition that an example runs through, opened by one name
 opened : Unit {0}
-unfolding modulo ceilDiv clamp sum sumℤ tabulate raster count inside closest reflected supply planeOf pick around tap kernel weightedSum total magnitude pairSums pascalRow choose binomial quotient remainder wantedTotal lacking comesBefore getsUnit share apportion rowValue weightedResult area window boxResult insert sort smallest rankResult outlineKernels response largest edgeStrength outlineResult stage result stagePlane written scaledGain weightedGrowth growth afterStage toleranceFrom tolerance denominator numerator exactPlane exactFrom denominatorFrom exact exactDenominator row filtered exactly apportioned toleranceOf supplied minus three one two alone quadruple above outlined smoothed
+unfolding modulo ceilDiv clamp sum sumℤ tabulate raster count inside closest folded supply planeOf pick around tap kernel weightedSum total magnitude pairSums pascalRow choose binomial quotient remainder wantedTotal lacking comesBefore getsUnit share apportion rowValue weightedResult area window boxResult insert sort smallest rankResult outlineKernels response largest edgeStrength outlineResult stage result stagePlane written scaledGain weightedGrowth growth afterStage toleranceFrom tolerance denominator numerator exactPlane exactFrom denominatorFrom exact exactDenominator row filtered exactly apportioned toleranceOf supplied minus three one two alone quadruple back outlined smoothed
 opened = tt
 
 -- THE WORKED EXAMPLES HOLD, by computation

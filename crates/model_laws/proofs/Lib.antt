@@ -1,5 +1,6 @@
 -- What is proved of the definitions.
 pub mod Border
+pub mod Mirror
 pub mod Apportion
 pub mod Binomial
 pub mod Flat

@@ -2,21 +2,12 @@
 use Prim.Native.Nat.{ℕ, _+_, _-_, _*_, _/_, _%_, _<_, _≤_}
 use native.Mathlib.Nat.{div-add-mod, mod-lt, div-lt-iff-lt-mul}
 use native.Mathlib.Omega.{arith}
-use mathlib.Core.Path.{_≡_, sym, ap, _∙_}
-use lib.Arith.{digits-div, digits-mod}
+use mathlib.Core.Path.{_≡_, ap}
 use lib.IntN.{ℤ, pos, natAbs, _+ℤ_, _-ℤ_, _*ℤ_}
 use Rattle.integers.specs.Divide.{floorDiv, modulo}
 use Rattle.integers.proofs.Parts.{posPart, negPart, parts-ext, add-parts, sub-parts, mul-parts, abs-parts}
-use Rattle.integers.proofs.Divide.{Divided, divided}
+use Rattle.integers.proofs.Divide.{Divided, divided, divided-unique}
 use Rattle.numerators.specs.Numerator.{numeratorOf}
-
--- a quotient and a remainder are the only ones
-pub divided-unique : {z : ℤ} {m : ℕ} {q q′ : ℤ} {r r′ : ℕ} → Divided z m q r → Divided z m q′ r′ → (q ≡ q′) × (r ≡ r′)
-divided-unique {z} {m} {q} {q′} {r} {r′} d e =
-    let same : (posPart q + negPart q′) * m + r ≡ (posPart q′ + negPart q) * m + r′ = omega (arith, d .whole, e .whole) in (
-      parts-ext q q′ (sym (digits-div (posPart q + negPart q′) (d .small)) ∙ ap (λ (n : ℕ). n / m) same ∙ digits-div (posPart q′ + negPart q) (e .small)),
-      sym (digits-mod (posPart q + negPart q′) (d .small)) ∙ ap (λ (n : ℕ). n % m) same ∙ digits-mod (posPart q′ + negPart q) (e .small),
-    )
 
 -- z over m, where v is z and k times m more
 module _ (z : ℤ) (m k v : ℕ) (h : 0 < m) (e : pos v ≡ z +ℤ pos (k * m)) where

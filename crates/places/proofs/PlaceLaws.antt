@@ -5,12 +5,13 @@ use native.Mathlib.Omega.{arith}
 use native.Mathlib.Decide.{decLe}
 use mathlib.Core.Path.{_≡_, refl, sym, ap, _∙_}
 use mathlib.Core.Option.{Option, none, some}
-use lib.IntN.{ℤ, pos, negsuc, _-ℤ_}
+use lib.IntN.{pos, negsuc}
 use borrow.Author.Tests.{lt-ltb, le-ltb}
 use Rattle.integers.specs.Divide.{modulo}
-use Rattle.integers.proofs.Parts.{posPart, negPart, parts-ext, sub-parts}
-use Rattle.model.specs.Border.{constant, nearest, mirror, wrap, inside, closest, reflected, supply}
+use Rattle.integers.proofs.Parts.{parts-ext, sub-parts}
+use Rattle.model.specs.Border.{constant, nearest, mirror, wrap, inside, closest, folded, supply}
 use Rattle.model_laws.proofs.Border.{Inside}
+use Rattle.model_laws.proofs.Mirror.{mirror-below}
 use Rattle.stage_values.specs.Place.{offsetOf}
 use Rattle.places.specs.Supplied.{placeOf}
 
@@ -46,29 +47,13 @@ module _ (n x : ℕ) where
   unfolding supply closest placeOf
   nearest-from h = rw (from x h)
 
-  pub mirror-before : x < 15 → placeOf n (supply mirror n (offsetOf x)) ≡ min (14 - x) (n - 1)
-  unfolding supply closest reflected placeOf
-  mirror-before h = rw (before x h)
+  pub mirror-before : 0 < n → x < 15 → placeOf n (supply mirror n (offsetOf x)) ≡ folded n ((14 - x) % (2 * n))
+  unfolding supply modulo placeOf
+  mirror-before h k = ap (placeOf n) (ap (supply mirror n) (before x k) ∙ mirror-below n h (14 - x))
 
-  pub mirror-in : 15 ≤ x → x - 15 < n → placeOf n (supply mirror n (offsetOf x)) ≡ x - 15
-  unfolding supply closest reflected placeOf
-  mirror-in h k = rw (from x h, lt-ltb (x - 15) n k) (omega arith)
-
-  -- past the end, while what it is reflected to is at least 0
-  pub mirror-after : 15 ≤ x → n ≤ x - 15 → x < 2 * n + 14 → placeOf n (supply mirror n (offsetOf x)) ≡ 2 * n + 14 - x
-  unfolding supply closest reflected placeOf
-  mirror-after h k l =
-      let e : pos (2 * n - 1) -ℤ pos (x - 15) ≡ pos (2 * n + 14 - x) = parts-ext _ _ (omega (arith, sub-parts (pos (2 * n - 1)) (pos (x - 15)))) in
-      rw (from x h, le-ltb (x - 15) n k, e) (omega arith)
-
-  -- and below
-  pub mirror-beyond : 15 ≤ x → 0 < n → n ≤ x - 15 → 2 * n + 14 ≤ x → placeOf n (supply mirror n (offsetOf x)) ≡ 0
-  unfolding supply closest reflected placeOf
-  mirror-beyond h p k l = rw (from x h, le-ltb (x - 15) n k) (low (pos (2 * n - 1) -ℤ pos (x - 15)) (omega (arith, sub-parts (pos (2 * n - 1)) (pos (x - 15)))))
-    where
-      low : (z : ℤ) → posPart z + (x - 15) ≡ 2 * n - 1 + negPart z → closest n z ≡ 0
-      low (pos k) e = omega (arith, e)
-      low (negsuc k) e = refl
+  pub mirror-from : 15 ≤ x → placeOf n (supply mirror n (offsetOf x)) ≡ folded n ((x - 15) % (2 * n))
+  unfolding supply modulo placeOf
+  mirror-from k = rw (from x k)
 
   -- 15 (n - 1) is -15 and 15 times n
   pub wrap-any : 0 < n → placeOf n (supply wrap n (offsetOf x)) ≡ (x + 15 * (n - 1)) % n

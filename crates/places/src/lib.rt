@@ -1,8 +1,8 @@
 // The frame rule on one axis: the index inside that is supplied at a place, by border. Places are held 15 too large, so they are at least 0.
 use stage_values::Border;
 ghost use mathlib.Core.Path.{_≡_};
-ghost use Prim.Native.Nat.{_≤_};
-ghost use Rattle.model.specs.Border.{constant, nearest, mirror, wrap, supply};
+ghost use Prim.Native.Nat.{_*_, _%_, _≤_, _<_};
+ghost use Rattle.model.specs.Border.{constant, nearest, mirror, wrap, folded, supply};
 ghost use Rattle.stage_values.specs.Place.{offsetOf};
 ghost use Rattle.stage_values.specs.Stands.{borderIs};
 ghost use Rattle.places.specs.Supplied.{placeOf};
@@ -29,20 +29,36 @@ fn closest(n: usize, x: usize) -> usize
     if x - 15 < n { x - 15 } else { n - 1 }
 }
 
-// Index -k is at place 15 - k and becomes k - 1; place x past the end becomes 2n + 14 - x.
+// Of the indices 0 to 2n - 1 the upper half runs back.
+fn folded(n: usize, m: usize) -> usize
+    requires { ⌜ (n ≤ 8192) × (m < 2 * n) ⌝ }
+    ensures { λ r. ⌜ r ≡ folded n m ⌝ }
+{
+    if m < n { m } else { 2 * n - 1 - m }
+}
+
+// The same again every 2n. Within the first period nothing is divided, and on an axis of 15 or more no offset reaches past it.
+fn repeated(n: usize, k: usize) -> usize
+    requires { ⌜ (1 ≤ n) × (n ≤ 8192) ⌝ }
+    ensures { λ r. ⌜ r ≡ folded n (k % (2 * n)) ⌝ }
+{
+    if k < 2 * n {
+        folded(n, k)
+    } else {
+        folded(n, k % (2 * n))
+    }
+}
+
+// Index -1 - k reads as k does.
 fn mirrored(n: usize, x: usize) -> usize
     requires { ⌜ (1 ≤ n) × (n ≤ 8192) × (x ≤ 16384) ⌝ }
     ensures { λ r. ⌜ r ≡ placeOf n (supply mirror n (offsetOf x)) ⌝ }
 {
     if x < 15 {
-        let k = 14 - x;
-        return if k < n { k } else { n - 1 };
+        repeated(n, 14 - x)
+    } else {
+        repeated(n, x - 15)
     }
-    if x - 15 < n {
-        return x - 15;
-    }
-    let end = 2 * n + 14;
-    if x < end { end - x } else { 0 }
 }
 
 // 15 (n - 1) is -15 and 15 n more, so the sum is x - 15 modulo n.

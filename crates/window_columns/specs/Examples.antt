@@ -7,7 +7,7 @@ use mathlib.Core.Path.{_≡_, refl}
 use Rattle.integers.specs.Divide.{modulo}
 use Rattle.lists.specs.Count.{count}
 use Rattle.lists.specs.Tabulate.{tabulate}
-use Rattle.model.specs.Border.{supply, inside, closest, reflected}
+use Rattle.model.specs.Border.{supply, inside, closest, folded}
 use Rattle.stage_values.specs.declared.Border.{Border}
 use Rattle.stage_values.specs.declared.Border.the-variants.{Constant, Nearest, Mirror, Wrap}
 use Rattle.stage_values.specs.Place.{offsetOf}
@@ -59,7 +59,7 @@ examples =
 
 -- every definition that an example runs through, opened by one name
 opened : Unit {0}
-unfolding row framed samples rows column levels examples startOf rowStarts columnPick sideBySide columnOf tabulate count supply inside closest reflected modulo offsetOf
+unfolding row framed samples rows column levels examples startOf rowStarts columnPick sideBySide columnOf tabulate count supply inside closest folded modulo offsetOf
 opened = tt
 
 -- THE WORKED EXAMPLES HOLD, by computation

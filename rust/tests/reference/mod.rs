@@ -63,9 +63,12 @@ pub fn supplying(border: u8, k: i64, n: i64) -> Option<i64> {
         0 => None,
         1 => Some(k.clamp(0, n - 1)),
         2 => {
-            // -1, -2, .. to 0, 1, .., and n, n + 1, .. to n - 1, n - 2, ..
-            let reflected = if k < 0 { -k - 1 } else { n - (k - (n - 1)) };
-            Some(reflected.clamp(0, n - 1))
+            // reflected at the end that it lies beyond, as often as it takes: -1, -2, .. to 0, 1, .., and n, n + 1, .. to n - 1, n - 2, ..
+            let mut x = k;
+            while x < 0 || n <= x {
+                x = if x < 0 { -x - 1 } else { n - (x - (n - 1)) };
+            }
+            Some(x)
         }
         _ => Some(k.rem_euclid(n)),
     }

@@ -1,52 +1,25 @@
--- `places::mirrored` meets its contract: where the place is says which. Assumes nothing.
-use native.Mathlib.Omega.{arith}
+-- `places::mirrored` meets its contract: on each side of index 0 by its own law. Assumes nothing.
 use mathlib.Core.Path.{sym, _∙_}
-use Rattle.places.proofs.PlaceLaws.{mirror-before, mirror-in, mirror-after, mirror-beyond}
+use Rattle.places.proofs.PlaceLaws.{mirror-before, mirror-from}
 use borrow.Author.Needs.{needs}
 use Rattle.places.proofs.mirrored.Statement.{statement}
 use Rattle.places.proofs.mirrored.Tie as tie
 
-sub-k : tie.Need-sub-k
-sub-k c = search needs
+sub-repeated : tie.Need-sub-repeated
+sub-repeated c = search needs
 
-sub-result : tie.Need-sub-result
-sub-result c = search needs
+repeated-requires : tie.Need-repeated-requires
+repeated-requires c κs = search needs
+
+repeated-requires-2 : tie.Need-repeated-requires-2
+repeated-requires-2 c κs = search needs
 
 returns : tie.Need-returns
-returns c = sym (mirror-before _ _ (c .before .if1 .taken) ∙ omega arith)
+returns c = c .repeated .ensures ∙ sym (mirror-before _ _ (c .before .before .pre .0) (c .before .if1 .taken))
 
 returns-2 : tie.Need-returns-2
-returns-2 c = sym (mirror-before _ _ (c .before .if1 .taken) ∙ omega arith)
-
-returns-3 : tie.Need-returns-3
-returns-3 c = sym (mirror-in _ _ (c .before .if1 .left) (c .if3 .taken))
-
-mul-end : tie.Need-mul-end
-mul-end c = search needs
-
-add-end : tie.Need-add-end
-add-end c = search needs
-
-sub-result-2 : tie.Need-sub-result-2
-sub-result-2 c = search needs
-
-returns-4 : tie.Need-returns-4
-returns-4 c = sym (mirror-after _ _ (c .before .before .if1 .left) (c .before .if3 .left) (c .if4 .taken))
-
-returns-5 : tie.Need-returns-5
-returns-5 c = sym (mirror-beyond _ _ (c .before .before .if1 .left) (c .before .before .before .pre .0) (c .before .if3 .left) (c .if4 .left))
+returns-2 c = c .repeated2 .ensures ∙ sym (mirror-from _ _ (c .before .if1 .left))
 
 pub mirrored-spec : {M : Type 1} → statement M
 mirrored-spec =
-    tie.close
-    (tie.spec
-    sub-k
-    sub-result
-    returns
-    returns-2
-    returns-3
-    mul-end
-    add-end
-    sub-result-2
-    returns-4
-    returns-5)
+    tie.close (tie.spec sub-repeated repeated-requires repeated-requires-2 returns returns-2)
