@@ -323,7 +323,7 @@ fn ranks_are_filtered_alike() {
     }
 }
 
-/// Every frame of up to 16 a side, which an offset may leave by 15 lengths, under every border: windows of 31 by 31, and thirds at -15 and 15.
+/// Every frame of up to 16 a side under every border: thirds at -15 and 15, and windows of 31 by 31. A side of 1 is left by up to 15 lengths.
 #[test]
 fn short_axes_are_filtered_alike() {
     const THIRDS: [u8; 18] = [2, 2, 0, 3, 0, 3, 241, 15, 241, 15, 0, 1, 0, 2, 0, 2, 0, 1];
@@ -338,7 +338,8 @@ fn short_axes_are_filtered_alike() {
         let plane = inputs::samples(&mut rng, w * h);
         for border in 0..4 {
             for (kind, fields) in works {
-                let recipe = [&[1, kind, border, 0], fields].concat();
+                let value = if border == 0 { 99 } else { 0 };
+                let recipe = [&[1, kind, border, value], fields].concat();
                 let need = reference::needs(&reference::read_recipe(&recipe).unwrap(), w, h, w * h);
                 calls::filter_plane(&mut rng, &recipe, w, h, &plane, need).unwrap();
             }

@@ -110,7 +110,7 @@ back k = kernel 1 (tap (minus k) (pos 1) ∷ [])
 -- wrap: -5 is 1 modulo 3, and 7 is 1;
 -- box, nearest: the corner (0, 0) has its own row and column twice, (4·10 + 2·20 + 2·30 + 40) / 9 = 20, and 210/9 = 23.3, 240/9 = 26.7, 270/9 = 30 follow;
 -- box, constant 100: each window has the whole plane and five samples of 100, 600/9 = 66.7; box, wrap: the other row and column twice, 10 + 2·20 + 2·30 + 4·40 = 270;
--- the row above the first is the border value's, or the last row. Four rows up, or four columns left, of 10 30 are -4 and -3, which are 0 and 1 modulo 4;
+-- the row above the first is the border value's, or the last row. Six rows up, or six columns left, of 10 30 are -6 and -5, which are 2 and 3 modulo 4;
 -- 1 and 2 over 3: (10 + 2·40) / 3 = 30. The weights are 21,845 1/3 and 43,690 2/3, and the one unit goes to the second;
 -- halves across and down: (12.5 + 12) / 2 = 12.25, since row values keep their fractions; -1 across and -1 down: the row value -20 is kept;
 -- -1/128 across, -1 down: 63 gives -31.5 64ths, rounded up to -31, and 31/64 is nearest to 0;
@@ -133,7 +133,7 @@ details =
     ∷ row "box 1,1 on 10 20 / 30 40, wrap" (filtered 2 2 wrap 0 (box 1 1) (10 ∷ 20 ∷ 30 ∷ 40 ∷ [])) (samples (30 ∷ 27 ∷ 23 ∷ 20 ∷ []))
     ∷ row "the row above, constant 7" (filtered 1 3 constant 7 (weighted one (back 1)) (10 ∷ 20 ∷ 40 ∷ [])) (samples (7 ∷ 10 ∷ 20 ∷ []))
     ∷ row "the row above, wrap" (filtered 1 3 wrap 0 (weighted one (back 1)) (10 ∷ 20 ∷ 40 ∷ [])) (samples (40 ∷ 10 ∷ 20 ∷ []))
-    ∷ row "four rows up, mirror" (filtered 1 2 mirror 0 (weighted one (back 4)) (10 ∷ 30 ∷ [])) (samples (10 ∷ 30 ∷ []))
+    ∷ row "six rows up, mirror" (filtered 1 2 mirror 0 (weighted one (back 6)) (10 ∷ 30 ∷ [])) (samples (30 ∷ 10 ∷ []))
     ∷ row "1 2 over 3 at 0 1" (filtered 2 1 nearest 0 (weighted (two 3 (pos 1) (pos 2)) one) (10 ∷ 40 ∷ [])) (samples (30 ∷ 40 ∷ []))
     ∷ row "1 2 over 3" (apportioned (two 3 (pos 1) (pos 2))) (weights (pos 21845 ∷ pos 43691 ∷ []))
     ∷ row "halves at 0 1, across and down" (filtered 2 2 nearest 0 (weighted (two 2 (pos 1) (pos 1)) (two 2 (pos 1) (pos 1))) (12 ∷ 13 ∷ 12 ∷ 12 ∷ [])) (samples (12 ∷ 13 ∷ 12 ∷ 12 ∷ []))
@@ -157,7 +157,7 @@ details =
     ∷ row "exact -1 0 1 over 2" (exactly 3 1 (stage nearest 0 (weighted (three 2 (minus 1) (pos 0) (pos 1)) one) ∷ []) (10 ∷ 20 ∷ 40 ∷ [])) (fractions 2 (10 ∷ 30 ∷ 20 ∷ []))
     ∷ row "exact -1 0 1 over 2, on 40 20 10" (exactly 3 1 (stage nearest 0 (weighted (three 2 (minus 1) (pos 0) (pos 1)) one) ∷ []) (40 ∷ 20 ∷ 10 ∷ [])) (fractions 2 (0 ∷ 0 ∷ 0 ∷ []))
     ∷ row "exact 4 over 1 on 200" (exactly 1 1 (stage nearest 0 (weighted (alone 1 (pos 4)) one) ∷ []) (200 ∷ [])) (fractions 1 (255 ∷ []))
-    ∷ row "exact, four columns left, mirror" (exactly 2 1 (stage mirror 0 (weighted (back 4) one) ∷ []) (10 ∷ 30 ∷ [])) (fractions 1 (10 ∷ 30 ∷ []))
+    ∷ row "exact, six columns left, mirror" (exactly 2 1 (stage mirror 0 (weighted (back 6) one) ∷ []) (10 ∷ 30 ∷ [])) (fractions 1 (30 ∷ 10 ∷ []))
     ∷ row "exact box, then box with constant 100"
     (exactly 3 1 (stage nearest 0 (box 1 0) ∷ stage constant 100 (box 1 0) ∷ []) (10 ∷ 20 ∷ 40 ∷ []))
     (fractions 9 (410 ∷ 210 ∷ 470 ∷ []))

@@ -1,9 +1,9 @@
--- Mirror: it has period 2n, it reads the same from both ends, and it is what reflecting comes to, done again and again. Assumes nothing.
-use Prim.Native.Nat.{ℕ, suc, _+_, _-_, _*_, _≤_, _<_}
+-- Mirror: it has period 2n, it reads the same from both ends, and it is where reflecting again and again ends. Assumes nothing.
+use Prim.Native.Nat.{ℕ, zero, suc, _+_, _-_, _*_, _≤_, _<_}
 use native.Mathlib.Nat.{lt-of-not-le}
 use native.Mathlib.Omega.{arith}
 use native.Mathlib.Decide.{decLe}
-use mathlib.Core.Path.{_≡_, refl, sym, ap, _∙_}
+use mathlib.Core.Path.{_≡_, refl, sym, ap, subst, _∙_}
 use mathlib.Core.Bool.{cond}
 use mathlib.Core.Option.{some, Option·some-injective}
 use lib.Dec.{ltb}
@@ -66,7 +66,7 @@ module _ (n : ℕ) (h : 0 < n) where
       ∙ ap some (folded-back m small)
       ∙ sym (supply-of (over x))
 
-  -- so do the indices below 0, from -1 down
+  -- the indices below 0, from -1 down, read as those from 0 up
   pub mirror-below : (k : ℕ) → supply mirror n (negsuc k) ≡ supply mirror n (pos k)
   mirror-below k =
       let e : negsuc k +ℤ pos (2 * n) ≡ pos (2 * n - 1) -ℤ pos k = parts-ext _ _ (omega (arith, add-parts (negsuc k) (pos (2 * n)), sub-parts (pos (2 * n - 1)) (pos k))) in
@@ -95,17 +95,29 @@ module _ (n : ℕ) (h : 0 < n) where
 
 -- ---- reflecting
 
--- once, at the end that x lies beyond: -1, -2, .. become 0, 1, .., and n, n + 1, .. become n - 1, n - 2, ..
+-- once, at the end that x lies beyond: -1, -2, .. become 0, 1, .., and n, n + 1, .. become n - 1, n - 2, ..; an index inside stays
 unfoldable pub reflected : ℕ → ℤ → ℤ
 reflected n (negsuc k) = pos k
 reflected n (pos k) = cond (ltb k n) (pos k) (pos (2 * n - 1) -ℤ pos k)
+
+-- and j times
+unfoldable pub reflections : ℕ → ℕ → ℤ → ℤ
+reflections n zero x = x
+reflections n (suc j) x = reflections n j (reflected n x)
 
 -- the rule that request 2026-04 replaced: reflected once, and where that is outside too, the closest
 abbrev pub once : ℕ → ℤ → ℕ
 once n x = closest n (reflected n x)
 
+-- x is led to an index inside
+pub record Lands (n : ℕ) (x : ℤ) : Type 0 where
+  pub times : ℕ
+  pub index : ℕ
+  pub there : reflections n times x ≡ pos index
+  pub inside : index < n
+
 module _ (n : ℕ) (h : 0 < n) where
-  -- the rule sees no difference, however often it is done
+  -- the rule sees no difference
   pub mirror-reflected : (x : ℤ) → supply mirror n (reflected n x) ≡ supply mirror n x
   unfolding reflected
   mirror-reflected (negsuc k) = sym (mirror-below n h k)
@@ -115,12 +127,44 @@ module _ (n : ℕ) (h : 0 < n) where
       go (yes l) = rw (le-ltb k n l) (mirror-palindrome n h (pos k))
       go (no l) = rw (lt-ltb k n (lt-of-not-le l))
 
+  -- so an index inside that some number of reflections leads to is the one that is supplied
+  pub mirror-again : (j : ℕ) (x : ℤ) (k : ℕ) → k < n → reflections n j x ≡ pos k → supply mirror n x ≡ some k
+  unfolding reflections
+  mirror-again zero x k l e = ap (supply mirror n) e ∙ supply-identity mirror n k l
+  mirror-again (suc j) x k l e = sym (mirror-reflected x) ∙ mirror-again j (reflected n x) k l e
+
+  later : (x : ℤ) → Lands n (reflected n x) → Lands n x
+  unfolding reflections
+  later x l = record { times = suc (l .times); index = l .index; there = l .there; inside = l .inside }
+
+  -- every reflection of an index outside makes it smaller
+  lands-below : (b : ℕ) (x : ℤ) → posPart x + negPart x < b → Lands n x
+  unfolding reflections reflected
+  lands-below zero x l = absurd (omega (arith, l))
+  lands-below (suc b) (negsuc k) l = later (negsuc k) (lands-below b (pos k) (omega (arith, l)))
+  lands-below (suc b) (pos k) l = go (lands-below b) (decLe n k)
+    where
+      smaller : n ≤ k → (y : ℤ) → posPart y + k ≡ 2 * n - 1 + negPart y → posPart y + negPart y < k
+      smaller c (pos a) e = omega (arith, c, h, e)
+      smaller c (negsuc a) e = omega (arith, c, h, e)
+
+      go : ((y : ℤ) → posPart y + negPart y < b → Lands n y) → Dec (n ≤ k) → Lands n (pos k)
+      go less (yes c) =
+          let y = pos (2 * n - 1) -ℤ pos k in
+          let e : reflected n (pos k) ≡ y = rw (le-ltb k n c) in
+          later (pos k) (subst (Lands n) (sym e) (less y (omega (arith, l, smaller c y (omega (arith, sub-parts (pos (2 * n - 1)) (pos k)))))))
+      go less (no c) = record { times = 0; index = k; there = refl; inside = lt-of-not-le c }
+
+  -- and there is such a number, for every x
+  pub mirror-lands : (x : ℤ) → Lands n x
+  mirror-lands x = lands-below (suc (posPart x + negPart x)) x (omega arith)
+
   -- where the first reflection lands inside, nothing has changed
   pub mirror-as-before : (x : ℤ) (k : ℕ) → k < n → reflected n x ≡ pos k → supply mirror n x ≡ some (once n x)
-  unfolding closest
+  unfolding closest reflections
   mirror-as-before x k l e =
       let same : some (closest n (pos k)) ≡ some k = ap some (omega arith) in
-      rw e (sym (mirror-reflected x) ∙ ap (supply mirror n) e ∙ supply-identity mirror n k l ∙ sym same)
+      rw e (mirror-again 1 x k l e ∙ sym same)
 
   -- it does from -n to 2n - 1
   one-enough : (x : ℤ) → posPart x < 2 * n → negPart x ≤ n → supply mirror n x ≡ some (once n x)
