@@ -65,3 +65,16 @@ pub enum Mean {
         len: usize,
     },
 }
+
+// The movement between two stills: how many samples have surely moved, are surely still and are open, both T, and the length of each output.
+pub enum Movement {
+    Refused(u8),
+    Counts {
+        moved: usize,
+        still: usize,
+        open: usize,
+        tolerance1: u64,
+        tolerance2: u64,
+        len: usize,
+    },
+}

@@ -11,7 +11,7 @@ use Rattle.integers.proofs.Near.{mul-min}
 use Rattle.lists.proofs.Tabulate.{getD-tabulate}
 use Rattle.model.specs.Outline.{largest}
 use Rattle.model.specs.Within.{distance, Within}
-use Rattle.model_laws.proofs.Window.{Apart}
+use Rattle.model_laws.proofs.Window.{Apart, apart-of-within}
 use Rattle.background.specs.Background.{Member, Background, stills, samples}
 use Rattle.background.specs.Mean.{meanOf, samplesAt, meanRaster, meanTolerance}
 use Rattle.background.specs.ExactMean.{Measured, Honest, commonDenominator, exactTotal}
@@ -25,10 +25,6 @@ abbrev members : List Measured → List Member
 members ks = map (λ k. k .member) ks
 
 -- ---- distances and `Within`
-
-apart-of-within : (T N y x : ℕ) → Within T N y x → Apart N (T * N) y x
-unfolding Within distance
-apart-of-within T N y x w = omega (arith, w)
 
 -- y and x/N lie in 0 to 255, so they are never more than 255 levels apart, and T can be cut there
 within-cut : (T N y x : ℕ) → y ≤ 255 → x ≤ 255 * N → Apart N (T * N) y x → Within (min T 16711680) N y x

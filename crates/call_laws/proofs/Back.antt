@@ -19,8 +19,9 @@ use Rattle.room.specs.Room.{lent}
 use Rattle.filter_answers.specs.FileAnswer.{samplesOf}
 use Rattle.filter_answers.proofs.FileAccepted.{file-accepted}
 use Rattle.raster_filter.specs.FilteredRaster.{filteredRaster}
+use Rattle.raster_filter.proofs.FilteredLaws.{filtered-length}
 use Rattle.file_filter.specs.FiltersFile.{FiltersFile}
-use Rattle.program_filter.proofs.Saved.{front-two, filtered-length, saved-front}
+use Rattle.program_filter.proofs.Saved.{front-two, saved-front}
 use Rattle.call_laws.specs.ReadsBack.{ReadsBack}
 
 -- a buffer whose front is a header and its whole raster

@@ -27,7 +27,7 @@ use Rattle.recipe.proofs.Accepted.{recipe-read}
 use Rattle.table_sizes.specs.Needs.{tableSize, sumNeed}
 use Rattle.room.specs.Room.{roomTests}
 use Rattle.filter_answers.specs.FileAnswer.{fileSize}
-use Rattle.filter_answers.proofs.FileAccepted.{file-left, room-refused, still-done}
+use Rattle.filter_answers.proofs.FileAccepted.{picture-read, file-refused, file-done}
 use Rattle.program_filter.specs.Program.{programLent, programAnswer}
 
 -- ---- a recipe that is accepted has no larger window than 31 by 31
@@ -77,9 +77,9 @@ module _ (recipe still : List ℕ) {S T : ℕ} (accepted : recipeOf recipe ≡ S
   unfolding programAnswer
   fits-96-by-72 e =
       let r = recipe-read recipe accepted in
-      file-left recipe still programLent (r .0) ∙ still-done (recipeStages recipe) programLent e (enough e) ∙ rw (r .1)
+      file-done recipe still programLent (picture-read recipe still (r .0) e) (enough e) ∙ rw (r .1)
 
   -- 144 by 96: too few row values are lent
   pub refused-144-by-96 : stillOf still ≡ Still.Picture 144 96 c start → programAnswer recipe still ≡ File.Refused 20
   unfolding programAnswer roomTests verdict
-  refused-144-by-96 e = file-left recipe still programLent (recipe-read recipe accepted .0) ∙ room-refused (recipeStages recipe) programLent e refl
+  refused-144-by-96 e = file-refused recipe still programLent (picture-read recipe still (recipe-read recipe accepted .0) e) refl

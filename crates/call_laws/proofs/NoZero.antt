@@ -1,4 +1,4 @@
--- NO REFUSAL'S NUMBER IS 0, of none of the eight calls: so a C caller who gets 0 has the answer. Assumes nothing.
+-- NO REFUSAL'S NUMBER IS 0, of none of the nine calls: so a C caller who gets 0 has the answer. Assumes nothing.
 use Prim.Native.Nat.{ℕ, zero, suc, _+_, _≤_}
 use native.Mathlib.Omega.{arith}
 use mathlib.Core.Path.{_≡_, refl}
@@ -7,8 +7,8 @@ use mathlib.Core.List.{List, [], _∷_, _++_}
 use lib.Dec.{leb, eqb}
 use lib.IntN.{ℤ, pos, _+ℤ_}
 use lib.ListN.{drop, length}
-use borrow.Author.Tests.{leb-true}
-use Rattle.refusals.specs.Refusal.{Test, tested}
+use borrow.Author.Tests.{leb-true, le-leb}
+use Rattle.refusals.specs.Refusal.{Test, tested, sizesDiffer, movementLimit}
 use Rattle.answers.specs.declared.Still.{Still}
 use Rattle.answers.specs.declared.Still.the-variants as Still
 use Rattle.answers.specs.declared.Written.{Written}
@@ -21,7 +21,10 @@ use Rattle.answers.specs.declared.File.{File}
 use Rattle.answers.specs.declared.File.the-variants as File
 use Rattle.answers.specs.declared.Mean.{Mean}
 use Rattle.answers.specs.declared.Mean.the-variants as Mean
+use Rattle.answers.specs.declared.Movement.{Movement}
+use Rattle.answers.specs.declared.Movement.the-variants as Movement
 use Rattle.model.specs.Stage.{Stage}
+use Rattle.model.specs.Tolerance.{tolerance}
 use Rattle.recipe_bytes.specs.Bytes.{at, signed8, there}
 use Rattle.stage_fields.specs.StageFields.{headTests, radiusTests, positionTests}
 use Rattle.axis_fields.specs.AxisFields.{sizesLength, sizeTests, offsetTests, axisTests, realTests, weightTests}
@@ -36,13 +39,15 @@ use Rattle.still_writer.specs.Write.{writeTests, writtenOf}
 use Rattle.room.specs.declared.Lent.{Lent}
 use Rattle.room.specs.Room.{lent, roomTests}
 use Rattle.filter_answers.specs.PlaneAnswer.{planeTests, planeAnswer}
-use Rattle.filter_answers.specs.FileAnswer.{fileSize, stillAnswer, fileAnswer}
+use Rattle.filter_answers.specs.FileAnswer.{stillAnswer, pictureAnswer, lentTests, fileAnswer}
+use Rattle.movement_answers.specs.Run.{Run, stages, asked}
+use Rattle.movement_answers.specs.MovementAnswer.{refusalTests, sameSize, movementTests, motionsBetween, counts, movementAnswer}
 use Rattle.background.specs.Background.{Background, stills, samples}
 use Rattle.background.specs.Change.{Outcome, refused, changed, addTests, additionOf, addition, removeTests, removal}
 use Rattle.background.specs.Mean.{meanTolerance, meanTests, meanAnswer}
 use Rattle.background.specs.Memory.{answerOf}
-use Rattle.told.specs.Numbers.{Told, refusal, values, Tells, stillTold, writtenTold, recipeTold, planeTold, fileTold, changedTold, meanTold}
-use Rattle.capi.specs.Calls.{WritesStill, FiltersPlane, FiltersFile}
+use Rattle.told.specs.Numbers.{Told, refusal, values, Tells, stillTold, writtenTold, recipeTold, planeTold, fileTold, changedTold, meanTold, movementTold}
+use Rattle.capi.specs.Calls.{WritesStill, FiltersPlane, FiltersFile, CountsMovement}
 use Rattle.told_background.specs.Calls.{ChangesBackground, MeansStills}
 use Rattle.call_laws.specs.Success.{Success}
 
@@ -162,18 +167,25 @@ filter-plane-number recipe W H samples l n e =
     other : {T : ℕ} → Filtered.Tolerance T ≡ Filtered.Refused n → 1 ≤ n
     other f = let z : _≡_ {A = ℕ} 0 1 = cc in absurd (omega arith)
 
-still-answer-number : (ts : List Stage) (l : Lent) (s : Still) (n : ℕ) → ((k : ℕ) → s ≡ Still.Refused k → 1 ≤ k) → stillAnswer ts l s ≡ File.Refused n → 1 ≤ n
+still-answer-number : (T : ℕ) (s : Still) (n : ℕ) → ((k : ℕ) → s ≡ Still.Refused k → 1 ≤ k) → stillAnswer T s ≡ File.Refused n → 1 ≤ n
+still-answer-number T (Still.Refused k) n h e = let d : k ≡ n = cc in rw d at (h k refl)
+still-answer-number T (Still.Picture W H c start) n h e = let z : _≡_ {A = ℕ} 0 1 = cc in absurd (omega arith)
+
+-- the recipe's and the still's
+picture-answer-number : (recipe still : List ℕ) (n : ℕ) → pictureAnswer recipe still ≡ File.Refused n → 1 ≤ n
+unfolding pictureAnswer
+picture-answer-number recipe still n e =
+    refused-number File.Refused (λ m k f. cc) (recipeTests recipe) (stillAnswer (tolerance (recipeStages recipe)) (stillOf still)) n (recipe-numbered recipe) (still-answer-number (tolerance (recipeStages recipe)) (stillOf still) n (read-still-number still)) e
+
+lent-numbered : (ts : List Stage) (l : Lent) (a : File) → numbered (lentTests ts l a) ≡ true
 unfolding roomTests
-still-answer-number ts l (Still.Refused k) n h e = let d : k ≡ n = cc in rw d at (h k refl)
-still-answer-number ts l (Still.Picture W H c start) n h e = refused-number File.Refused (λ m k f. cc) (roomTests W H ts (fileSize W H c) l) (File.Picture _ _ _ _ _) n refl other e
-  where
-    other : {W H c T s : ℕ} → File.Picture W H c T s ≡ File.Refused n → 1 ≤ n
-    other f = let z : _≡_ {A = ℕ} 0 1 = cc in absurd (omega arith)
+lent-numbered ts l (File.Refused n) = refl
+lent-numbered ts l (File.Picture W H c T n) = refl
 
 pub filter-file-number : (recipe still : List ℕ) (l : Lent) (n : ℕ) → fileAnswer recipe still l ≡ File.Refused n → 1 ≤ n
 unfolding fileAnswer
 filter-file-number recipe still l n e =
-    refused-number File.Refused (λ m k f. cc) (recipeTests recipe) (stillAnswer (recipeStages recipe) l (stillOf still)) n (recipe-numbered recipe) (still-answer-number (recipeStages recipe) l (stillOf still) n (read-still-number still)) e
+    refused-number File.Refused (λ m k f. cc) (lentTests (recipeStages recipe) l (pictureAnswer recipe still)) (pictureAnswer recipe still) n (lent-numbered (recipeStages recipe) l (pictureAnswer recipe still)) (picture-answer-number recipe still n) e
 
 -- ---- the calls of document 02
 
@@ -206,6 +218,26 @@ mean-still-number rasters labels out b n e = go (eqb (stills b) 0) e
       where
         other : {k T s : ℕ} → Mean.Of k T s ≡ Mean.Refused n → 1 ≤ n
         other f = let z : _≡_ {A = ℕ} 0 1 = cc in absurd (omega arith)
+
+refusal-numbered : (a : File) → ((n : ℕ) → a ≡ File.Refused n → 1 ≤ n) → numbered (refusalTests a) ≡ true
+refusal-numbered (File.Refused n) h = rw (le-leb 1 n (h n refl))
+refusal-numbered (File.Picture W H c T n) h = refl
+
+pub count-movement-number : (L : ℕ) (a b : Run) (n : ℕ) → movementAnswer L a b ≡ Movement.Refused n → 1 ≤ n
+unfolding movementAnswer movementTests
+count-movement-number L a b n e = refused-number Movement.Refused (λ m k f. cc) (movementTests L a b) (counts (motionsBetween L a b) a b) n all other e
+  where
+    own : List Test
+    own = (leb L 255, movementLimit) ∷ refusalTests (asked a) ++ refusalTests (asked b)
+
+    all : numbered (movementTests L a b) ≡ true
+    all =
+        let first = numbered-append ((leb L 255, movementLimit) ∷ refusalTests (asked a)) (refusalTests (asked b)) (refusal-numbered (asked a) (picture-answer-number (a .recipe) (a .still))) (refusal-numbered (asked b) (picture-answer-number (b .recipe) (b .still))) in
+        let then = numbered-append own ((sameSize (asked a) (asked b), sizesDiffer) ∷ lentTests (stages a) (a .lent) (asked a)) first (lent-numbered (stages a) (a .lent) (asked a)) in
+        numbered-append (own ++ ((sameSize (asked a) (asked b), sizesDiffer) ∷ lentTests (stages a) (a .lent) (asked a))) (lentTests (stages b) (b .lent) (asked b)) then (lent-numbered (stages b) (b .lent) (asked b))
+
+    other : {m s o T T′ k : ℕ} → Movement.Counts m s o T T′ k ≡ Movement.Refused n → 1 ≤ n
+    other f = let z : _≡_ {A = ℕ} 0 1 = cc in absurd (omega arith)
 
 -- ---- the same for a C caller: 0 is told of success alone
 
@@ -245,6 +277,10 @@ mean-told : (a : Mean) → ((n : ℕ) → a ≡ Mean.Refused n → 1 ≤ n) → 
 mean-told (Mean.Refused n) h = h n refl
 mean-told Mean.NoStills h = tt
 mean-told (Mean.Of k T n) h = tt
+
+movement-told : (a : Movement) → ((n : ℕ) → a ≡ Movement.Refused n → 1 ≤ n) → NoZero (movementTold a)
+movement-told (Movement.Refused n) h = h n refl
+movement-told (Movement.Counts m s o T T′ n) h = tt
 
 -- each contract of the C interface, where the function returns 0
 module _ {array array′ : List ℕ} {r : ℕ} (returns-0 : r ≡ 0) where
@@ -296,3 +332,8 @@ module _ {array array′ : List ℕ} {r : ℕ} (returns-0 : r ≡ 0) where
     mean-still-success out out′ m =
         let a = meanAnswer (length rasters) (length labels) (length out) b in
         succeeds (meanTold a) (mean-told a (mean-still-number (length rasters) (length labels) (length out) b)) (m .told) returns-0
+
+  pub count-movement-success : (L : ℕ) (a b : Run) (work work′ : List ℕ) (rows rows′ : List ℤ) (sums sums′ out1 out1′ out2 out2′ : List ℕ)
+      → CountsMovement L a b work work′ rows rows′ sums sums′ out1 out1′ out2 out2′ array array′ r → Success (movementTold (movementAnswer L a b)) array′
+  count-movement-success L a b work work′ rows rows′ sums sums′ out1 out1′ out2 out2′ c =
+      succeeds (movementTold (movementAnswer L a b)) (movement-told (movementAnswer L a b) (count-movement-number L a b)) (c .told) returns-0

@@ -9,7 +9,10 @@ use Rattle.filter_answers.specs.PlaneAnswer.{planeAnswer}
 use Rattle.filter_answers.specs.FileAnswer.{fileAnswer}
 use Rattle.plane_filter.specs.FiltersPlane as Plane
 use Rattle.file_filter.specs.FiltersFile as File
-use Rattle.told.specs.Numbers.{Tells, writtenTold, planeTold, fileTold}
+use Rattle.movement_answers.specs.Run.{Run}
+use Rattle.movement_answers.specs.MovementAnswer.{movementAnswer}
+use Rattle.movement_filter.specs.CountsMovement as Movement
+use Rattle.told.specs.Numbers.{Tells, writtenTold, planeTold, fileTold, movementTold}
 
 -- `write_still`, for the answer that its definition gives
 pub record WritesStill (W H c : ℕ) (raster out out′ array array′ : List ℕ) (r : ℕ) : Type 0 where
@@ -25,3 +28,8 @@ pub record FiltersPlane (recipe : List ℕ) (W H : ℕ) (plane work work′ : Li
 pub record FiltersFile (recipe still work work′ : List ℕ) (rows rows′ : List ℤ) (sums sums′ out out′ array array′ : List ℕ) (r : ℕ) : Type 0 where
   pub filtered : File.FiltersFile recipe still work work′ rows rows′ sums sums′ out out′ (fileAnswer recipe still (lent (length work) (length rows) (length sums) (length out)))
   pub told : Tells (fileTold (fileAnswer recipe still (lent (length work) (length rows) (length sums) (length out)))) array array′ r
+
+-- `count_movement`, for the answer that its definition gives
+pub record CountsMovement (L : ℕ) (a b : Run) (work work′ : List ℕ) (rows rows′ : List ℤ) (sums sums′ out1 out1′ out2 out2′ array array′ : List ℕ) (r : ℕ) : Type 0 where
+  pub counted : Movement.CountsMovement L a b work work′ rows rows′ sums sums′ out1 out1′ out2 out2′ (movementAnswer L a b)
+  pub told : Tells (movementTold (movementAnswer L a b)) array array′ r

@@ -4,8 +4,9 @@ ghost use Rattle.still_reader.specs.Read.{stillOf};
 ghost use Rattle.recipe.specs.Recipe.{recipeOf};
 ghost use Rattle.background.specs.Change.{addition, removal};
 ghost use Rattle.background.specs.Memory.{backgroundIn};
+ghost use Rattle.movement_runs.specs.RunsBoth.{runOn};
 ghost use Rattle.told.specs.Numbers.{Tells, stillTold, recipeTold, heldIn};
-ghost use Rattle.capi.specs.Calls.{WritesStill, FiltersPlane, FiltersFile};
+ghost use Rattle.capi.specs.Calls.{WritesStill, FiltersPlane, FiltersFile, CountsMovement};
 ghost use Rattle.told_background.specs.Calls.{ChangesBackground, MeansStills};
 
 // Read a still: width, height, channels, and at which byte the raster begins.
@@ -78,6 +79,40 @@ pub extern "C" fn hejslopi_filter_file(
 {
     told::file(
         file_filter::filter_file(recipe, still, work, rows, sums, out),
+        result,
+    )
+}
+
+// The movement between two stills: how many samples have moved, are still and are open, both T, and the length of each output.
+#[no_mangle]
+pub extern "C" fn hejslopi_movement(
+    recipe1: &[u8],
+    still1: &[u8],
+    recipe2: &[u8],
+    still2: &[u8],
+    limit: u64,
+    work: &mut [u8],
+    rows: &mut [i32],
+    sums: &mut [u32],
+    out1: &mut [u8],
+    out2: &mut [u8],
+    result: &mut [u64; 6],
+) -> u32
+    ensures { λ r. ⌜ CountsMovement limit (runOn (now (recipe1 .entry)) (now (still1 .entry)) (now (work .entry)) (now (rows .entry)) (now (sums .entry)) (now (out1 .entry))) (runOn (now (recipe2 .entry)) (now (still2 .entry)) (now (work .entry)) (now (rows .entry)) (now (sums .entry)) (now (out2 .entry))) (now (work .entry)) (now (work .exit)) (now (rows .entry)) (now (rows .exit)) (now (sums .entry)) (now (sums .exit)) (now (out1 .entry)) (now (out1 .exit)) (now (out2 .entry)) (now (out2 .exit)) (now (result .entry)) (now (result .exit)) r ⌝ }
+{
+    told::movement(
+        movement_filter::count_movement(
+            recipe1,
+            still1,
+            recipe2,
+            still2,
+            limit,
+            work,
+            rows,
+            sums,
+            out1,
+            out2,
+        ),
         result,
     )
 }

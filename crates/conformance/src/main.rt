@@ -2,6 +2,7 @@
 // `PATH still` reads a still, writes it and reads it again; `PATH recipe` reads a recipe. `PATH back LENT RECIPE` filters a still by a recipe that gives it back.
 // `FOLDER file LENT` filters a folder's `still` by its `recipe`, and `FOLDER plane LENT W H FROM SKIP` what that still has from place FROM on. The output has to
 // be the folder's `out`, without its first SKIP bytes. LENT are four lengths: work bytes, row values, sums and output bytes. `FOLDER keep` runs a folder's `script`.
+// `FOLDER movement LIMIT LENT` compares a folder's two stills; here LENT has a length for each of both outputs.
 mod calls;
 
 use answers::Recipe;
@@ -95,6 +96,8 @@ fn make(text: &[u8]) {
         give_back(text, path);
     } else if kind == b'k' {
         keep(path);
+    } else if kind == b'm' {
+        movement_cases::run(text, path);
     } else {
         filter(text, path, asked(text, kind));
     }

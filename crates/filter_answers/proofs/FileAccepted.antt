@@ -2,14 +2,13 @@
 use Prim.Native.Nat.{ℕ, _+_, _*_, _-_, _≤_}
 use native.Mathlib.Nat.{mul-pos}
 use native.Mathlib.Omega.{arith}
-use mathlib.Core.Path.{_≡_, refl, sym, ap}
+use mathlib.Core.Path.{_≡_, refl, sym, ap, _∙_}
 use mathlib.Core.Logic.{⊎-elim}
 use mathlib.Core.List.{List}
 use lib.ListN.{length, drop, length-drop}
-use Rattle.refusals.specs.Refusal.{verdict}
+use Rattle.refusals.specs.Refusal.{tested, verdict}
 use Rattle.refusals.specs.declared.Verdict.the-variants as Verdict
-use Rattle.refusals.proofs.Passed.{passed, passed-all, passed-whole, refused-whole}
-use Rattle.model.specs.Stage.{Stage}
+use Rattle.refusals.proofs.Passed.{AllPass, passed, passed-all, passed-whole, refused-whole}
 use Rattle.model.specs.Tolerance.{tolerance}
 use Rattle.answers.specs.declared.Still.{Still}
 use Rattle.answers.specs.declared.Still.the-variants as Still
@@ -24,7 +23,7 @@ use Rattle.answers.specs.declared.File.the-variants as File
 use Rattle.room.specs.declared.Lent.{Lent}
 use Rattle.room.specs.Room.{roomTests, Sufficient}
 use Rattle.room.proofs.Suffices.{suffices}
-use Rattle.filter_answers.specs.FileAnswer.{fileSize, samplesOf, stillAnswer, fileAnswer}
+use Rattle.filter_answers.specs.FileAnswer.{fileSize, samplesOf, stillAnswer, pictureAnswer, Asked, lentTests, fileAnswer}
 
 -- what a still that was read keeps to
 pub record Shown (W H c start total : ℕ) : Type 0 where
@@ -52,27 +51,71 @@ shown still {W} {H} {c} {start} e =
       ends = omega (arith, length-drop start still, v .raster, mul-pos (mul-pos (w .0) (h .0)) k);
     }
 
-module _ (ts : List Stage) (l : Lent) {s : Still} where
-  pub still-refused : {n : ℕ} → s ≡ Still.Refused n → stillAnswer ts l s ≡ File.Refused n
+-- ---- whatever is lent
+
+module _ (T : ℕ) {s : Still} where
+  pub still-refused : {n : ℕ} → s ≡ Still.Refused n → stillAnswer T s ≡ File.Refused n
   still-refused e = rw e
 
-  module _ {W H c start : ℕ} (e : s ≡ Still.Picture W H c start) where
-    pub room-refused : {n : ℕ} → verdict (roomTests W H ts (fileSize W H c) l) ≡ Verdict.Refused n → stillAnswer ts l s ≡ File.Refused n
-    room-refused f = rw e (refused-whole File.Refused _ (roomTests W H ts (fileSize W H c) l) f)
+  pub still-done : {W H c start : ℕ} → s ≡ Still.Picture W H c start → stillAnswer T s ≡ File.Picture W H c T (fileSize W H c)
+  still-done e = rw e
 
-    pub still-done : verdict (roomTests W H ts (fileSize W H c) l) ≡ Verdict.Passed → stillAnswer ts l s ≡ File.Picture W H c (tolerance ts) (fileSize W H c)
-    still-done f = rw e (passed-whole File.Refused _ (roomTests W H ts (fileSize W H c) l) f)
-
-module _ (recipe still : List ℕ) (l : Lent) where
+module _ (recipe still : List ℕ) where
   -- a recipe that is refused decides
-  pub file-refused : {k : ℕ} → recipeOf recipe ≡ Recipe.Refused k → fileAnswer recipe still l ≡ File.Refused k
-  unfolding fileAnswer recipeOf
-  file-refused e = refused-whole File.Refused _ (recipeTests recipe) (recipe-refused recipe e)
+  pub picture-refused : {k : ℕ} → recipeOf recipe ≡ Recipe.Refused k → pictureAnswer recipe still ≡ File.Refused k
+  unfolding pictureAnswer recipeOf
+  picture-refused e = refused-whole File.Refused _ (recipeTests recipe) (recipe-refused recipe e)
 
   -- one that is accepted leaves it to the still
-  pub file-left : verdict (recipeTests recipe) ≡ Verdict.Passed → fileAnswer recipe still l ≡ stillAnswer (recipeStages recipe) l (stillOf still)
+  pub picture-left : verdict (recipeTests recipe) ≡ Verdict.Passed → pictureAnswer recipe still ≡ stillAnswer (tolerance (recipeStages recipe)) (stillOf still)
+  unfolding pictureAnswer
+  picture-left e = passed-whole File.Refused _ (recipeTests recipe) e
+
+  pub picture-read : verdict (recipeTests recipe) ≡ Verdict.Passed → {W H c start : ℕ} → stillOf still ≡ Still.Picture W H c start → pictureAnswer recipe still ≡ File.Picture W H c (tolerance (recipeStages recipe)) (fileSize W H c)
+  picture-read e f = picture-left e ∙ still-done (tolerance (recipeStages recipe)) f
+
+  -- what an answer with a picture has shown
+  pub record Pictured (W H c T n : ℕ) : Type 0 where
+    pub accepted : verdict (recipeTests recipe) ≡ Verdict.Passed
+    pub T-is : tolerance (recipeStages recipe) ≡ T
+    pub size-is : fileSize W H c ≡ n
+    pub start : ℕ
+    pub read : stillOf still ≡ Still.Picture W H c start
+
+  pub pictured : {W H c T n : ℕ} → pictureAnswer recipe still ≡ File.Picture W H c T n → Pictured W H c T n
+  unfolding pictureAnswer
+  pictured {W} {H} {c} {T} {n} e =
+      let p = passed File.Refused (recipeTests recipe) (stillAnswer (tolerance (recipeStages recipe)) (stillOf still)) (File.Picture W H c T n) (λ n f. let z : _≡_ {A = ℕ} 0 1 = cc in omega arith) e in
+      by-still (stillOf still) refl (passed-all _ (p .0)) (p .1)
+    where
+      by-still : (s : Still) → stillOf still ≡ s → verdict (recipeTests recipe) ≡ Verdict.Passed → stillAnswer (tolerance (recipeStages recipe)) s ≡ File.Picture W H c T n → Pictured W H c T n
+      by-still (Still.Refused k) f v g = let z : _≡_ {A = ℕ} 0 1 = cc in absurd (omega arith)
+      by-still (Still.Picture W′ H′ c′ start) f v g =
+          let ew : W′ ≡ W = cc in
+          let eh : H′ ≡ H = cc in
+          let ec : c′ ≡ c = cc in
+          let et : tolerance (recipeStages recipe) ≡ T = cc in
+          let en : fileSize W′ H′ c′ ≡ n = cc in
+          record { accepted = v; T-is = et; size-is = rw (sym ew, sym eh, sym ec) en; start = start; read = rw (sym ew, sym eh, sym ec) f }
+
+  -- so the lent buffers can be tested for it
+  pub answer-asked : (a : File) → pictureAnswer recipe still ≡ a → Asked recipe a
+  answer-asked (File.Refused n) e = tt
+  answer-asked (File.Picture W H c T n) e =
+      let p = pictured e in
+      let s = shown still (p .read) in
+      (s .width .1, s .height .1, p .accepted)
+
+-- ---- with what is lent
+
+module _ (recipe still : List ℕ) (l : Lent) {a : File} (e : pictureAnswer recipe still ≡ a) where
+  pub file-refused : {n : ℕ} → verdict (lentTests (recipeStages recipe) l a) ≡ Verdict.Refused n → fileAnswer recipe still l ≡ File.Refused n
   unfolding fileAnswer
-  file-left e = passed-whole File.Refused _ (recipeTests recipe) e
+  file-refused f = rw e (refused-whole File.Refused a (lentTests (recipeStages recipe) l a) f)
+
+  pub file-done : verdict (lentTests (recipeStages recipe) l a) ≡ Verdict.Passed → fileAnswer recipe still l ≡ a
+  unfolding fileAnswer
+  file-done f = rw e (passed-whole File.Refused a (lentTests (recipeStages recipe) l a) f)
 
 -- ---- an accepted file
 
@@ -87,39 +130,40 @@ pub record FileAccepted (recipe still : List ℕ) (l : Lent) (W H c T n : ℕ) :
   pub read : stillOf still ≡ Still.Picture W H c start
   pub samples : samplesOf (stillOf still) still ≡ drop (length still - W * H * c) still
 
--- a still that was read decides what an accepted answer says
-still-accepted : (recipe still : List ℕ) (l : Lent) {W H c T n : ℕ} (s : Still) → stillOf still ≡ s → verdict (recipeTests recipe) ≡ Verdict.Passed
-    → stillAnswer (recipeStages recipe) l s ≡ File.Picture W H c T n → FileAccepted recipe still l W H c T n
-still-accepted recipe still l (Still.Refused k) e v f = let z : _≡_ {A = ℕ} 0 1 = cc in absurd (omega arith)
-still-accepted recipe still l {W} {H} {c} {T} {n} (Still.Picture W′ H′ c′ start) e v f =
-    let ts = recipeStages recipe in
-    let p = passed File.Refused (roomTests W′ H′ ts (fileSize W′ H′ c′) l) (File.Picture W′ H′ c′ (tolerance ts) (fileSize W′ H′ c′)) (File.Picture W H c T n) (λ n f. let z : _≡_ {A = ℕ} 0 1 = cc in omega arith) f in
-    let s = shown still e in
-    let r = suffices W′ H′ recipe (fileSize W′ H′ c′) l (s .width) (s .height) v (p .0) in
-    let t = p .1 in
-    let ew : W′ ≡ W = cc in
-    let eh : H′ ≡ H = cc in
-    let ec : c′ ≡ c = cc in
-    let et : tolerance ts ≡ T = cc in
-    let en : fileSize W′ H′ c′ ≡ n = cc in
-    rw (sym ew, sym eh, sym ec)
-    (record {
-      suffices = r .0;
-      channels = s .channels;
-      raster = omega (arith, s .ends);
-      output = r .1;
-      T-is = et;
-      size-is = en;
-      start = start;
-      read = e;
-      samples = rw e (ap (λ (k : ℕ). drop k still) (starts start (W′ * H′ * c′) (length still) (s .ends)));
-    })
-  where
-    starts : (a b k : ℕ) → a + b ≡ k → a ≡ k - b
-    starts a b k g = omega (arith, g)
+module _ (recipe still : List ℕ) (l : Lent) where
+  -- a picture that has its room
+  pub picture-accepted : {W H c T n : ℕ} → pictureAnswer recipe still ≡ File.Picture W H c T n → AllPass (roomTests W H (recipeStages recipe) n l) → FileAccepted recipe still l W H c T n
+  picture-accepted {W} {H} {c} {T} {n} e room =
+      let p = pictured recipe still e in
+      let s = shown still (p .read) in
+      let r = suffices W H recipe n l (s .width) (s .height) (p .accepted) room in
+      record {
+        suffices = r .0;
+        channels = s .channels;
+        raster = omega (arith, s .ends);
+        output = omega (arith, r .1, p .size-is);
+        T-is = p .T-is;
+        size-is = p .size-is;
+        start = p .start;
+        read = p .read;
+        samples = rw (p .read) (ap (λ (k : ℕ). drop k still) (starts (p .start) (W * H * c) (length still) (s .ends)));
+      }
+    where
+      starts : (a b k : ℕ) → a + b ≡ k → a ≡ k - b
+      starts a b k g = omega (arith, g)
 
-pub file-accepted : (recipe still : List ℕ) (l : Lent) {W H c T n : ℕ} → fileAnswer recipe still l ≡ File.Picture W H c T n → FileAccepted recipe still l W H c T n
-unfolding fileAnswer
-file-accepted recipe still l {W} {H} {c} {T} {n} e =
-    let p = passed File.Refused (recipeTests recipe) (stillAnswer (recipeStages recipe) l (stillOf still)) (File.Picture W H c T n) (λ n f. let z : _≡_ {A = ℕ} 0 1 = cc in omega arith) e in
-    still-accepted recipe still l (stillOf still) refl (passed-all _ (p .0)) (p .1)
+  pub file-accepted : {W H c T n : ℕ} → fileAnswer recipe still l ≡ File.Picture W H c T n → FileAccepted recipe still l W H c T n
+  unfolding fileAnswer
+  file-accepted {W} {H} {c} {T} {n} e = by-answer (pictureAnswer recipe still) refl e
+    where
+      by-answer : (a : File) → pictureAnswer recipe still ≡ a → tested File.Refused (lentTests (recipeStages recipe) l a) a ≡ File.Picture W H c T n → FileAccepted recipe still l W H c T n
+      by-answer (File.Refused k) f g = let z : _≡_ {A = ℕ} 0 1 = cc in absurd (omega arith)
+      by-answer (File.Picture W′ H′ c′ T′ n′) f g =
+          let p = passed File.Refused (roomTests W′ H′ (recipeStages recipe) n′ l) (File.Picture W′ H′ c′ T′ n′) (File.Picture W H c T n) (λ n f. let z : _≡_ {A = ℕ} 0 1 = cc in omega arith) g in
+          let t = p .1 in
+          let ew : W′ ≡ W = cc in
+          let eh : H′ ≡ H = cc in
+          let ec : c′ ≡ c = cc in
+          let et : T′ ≡ T = cc in
+          let en : n′ ≡ n = cc in
+          rw (sym ew, sym eh, sym ec, sym et, sym en) (picture-accepted f (p .0))

@@ -1,8 +1,10 @@
 -- What `filter_file` answers.
-use Prim.Native.Nat.{ℕ, _+_, _*_}
+use Prim.Native.Nat.{ℕ, _+_, _*_, _≤_}
+use mathlib.Core.Path.{_≡_}
 use mathlib.Core.List.{List, []}
 use lib.ListN.{length, drop}
-use Rattle.refusals.specs.Refusal.{tested}
+use Rattle.refusals.specs.Refusal.{Test, tested, verdict}
+use Rattle.refusals.specs.declared.Verdict.the-variants.{Passed}
 use Rattle.model.specs.Stage.{Stage}
 use Rattle.model.specs.Tolerance.{tolerance}
 use Rattle.answers.specs.declared.Still.{Still}
@@ -19,14 +21,28 @@ use Rattle.room.specs.Room.{roomTests}
 unfoldable pub fileSize : ℕ → ℕ → ℕ → ℕ
 fileSize W H c = length (headerBytes W H c) + W * H * c
 
--- the answer once the recipe is accepted: the still's refusals, then 20
-abbrev pub stillAnswer : List Stage → Lent → Still → File
-stillAnswer ts l (Still.Refused n) = Refused n
-stillAnswer ts l (Still.Picture W H c start) = tested Refused (roomTests W H ts (fileSize W H c) l) (Picture W H c (tolerance ts) (fileSize W H c))
+-- the answer to a still by a recipe with this T, whatever is lent: the still's refusal, or its size, T and how many bytes are to be written
+abbrev pub stillAnswer : ℕ → Still → File
+stillAnswer T (Still.Refused n) = Refused n
+stillAnswer T (Still.Picture W H c start) = Picture W H c T (fileSize W H c)
+
+-- the answer to a recipe and a still, whatever is lent: the recipe's refusals come before the still's
+unfoldable pub pictureAnswer : List ℕ → List ℕ → File
+pictureAnswer recipe still = tested Refused (recipeTests recipe) (stillAnswer (tolerance (recipeStages recipe)) (stillOf still))
+
+-- what such an answer has shown: a picture's sides keep to their limit, and its recipe is accepted
+abbrev pub Asked : List ℕ → File → Type 0
+Asked recipe (Refused n) = Unit {0}
+Asked recipe (Picture W H c T n) = (W ≤ 8192) × (H ≤ 8192) × (verdict (recipeTests recipe) ≡ Passed)
+
+-- what is tested of the lent buffers for such an answer, all of it refusal 20: a refusal asks for none
+abbrev pub lentTests : List Stage → Lent → File → List Test
+lentTests ts l (Refused n) = []
+lentTests ts l (Picture W H c T n) = roomTests W H ts n l
 
 -- the answer of `filter_file`: the picture's size, T and the length written, or the first refusal: the recipe's, then the still's, then 20
 unfoldable pub fileAnswer : List ℕ → List ℕ → Lent → File
-fileAnswer recipe still l = tested Refused (recipeTests recipe) (stillAnswer (recipeStages recipe) l (stillOf still))
+fileAnswer recipe still l = tested Refused (lentTests (recipeStages recipe) l (pictureAnswer recipe still)) (pictureAnswer recipe still)
 
 -- a still's samples
 abbrev pub samplesOf : Still → List ℕ → List ℕ

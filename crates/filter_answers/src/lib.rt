@@ -8,11 +8,10 @@ use room::Lent;
 ghost use mathlib.Core.Path.{_≡_};
 ghost use Rattle.refusals.specs.Refusal.{verdict};
 ghost use Rattle.refusals.specs.declared.Verdict.the-variants.{Passed};
-ghost use Rattle.model.specs.Tolerance.{tolerance as toleranceOf};
 ghost use Rattle.still_reader.specs.Read.{stillOf};
 ghost use Rattle.recipe.specs.Recipe.{recipeTests, recipeStages};
 ghost use Rattle.filter_answers.specs.PlaneAnswer.{planeTests, planeAnswer};
-ghost use Rattle.filter_answers.specs.FileAnswer.{stillAnswer, fileAnswer};
+ghost use Rattle.filter_answers.specs.FileAnswer.{stillAnswer, pictureAnswer, Asked, lentTests, fileAnswer};
 
 // The tests after the recipe's, of an accepted recipe.
 fn plane_tests(recipe: &[u8], w: usize, h: usize, samples: usize, lent: Lent) -> Verdict
@@ -53,10 +52,9 @@ pub fn plane_answer(bytes: &[u8], w: usize, h: usize, samples: usize, lent: Lent
     }
 }
 
-// The answer once the recipe, with its tolerance, is accepted.
-fn still_answer(recipe: &[u8], tolerance: u64, still: &[u8], lent: Lent) -> File
-    requires { ⌜ (verdict (recipeTests (now recipe)) ≡ Passed) × (tolerance ≡ toleranceOf (recipeStages (now recipe))) ⌝ }
-    ensures { λ r. ⌜ r ≡ stillAnswer (recipeStages (now (recipe .entry))) lent (stillOf (now (still .entry))) ⌝ }
+// The answer to a still by a recipe with this tolerance, whatever is lent.
+fn still_answer(tolerance: u64, still: &[u8]) -> File
+    ensures { λ r. ⌜ r ≡ stillAnswer tolerance (stillOf (now (still .entry))) ⌝ }
 {
     match still_reader::read_still(still) {
         Still::Refused(n) => File::Refused(n),
@@ -68,29 +66,54 @@ fn still_answer(recipe: &[u8], tolerance: u64, still: &[u8], lent: Lent) -> File
         } => {
             let head = header_writer::header(width, height, channels);
             let len = head.len + width * height * channels;
-            match room::tests(recipe, width, height, len, lent) {
-                Verdict::Refused(n) => File::Refused(n),
-                Verdict::Passed => File::Picture {
-                    width,
-                    height,
-                    channels,
-                    tolerance,
-                    len,
-                },
+            File::Picture {
+                width,
+                height,
+                channels,
+                tolerance,
+                len,
             }
         }
     }
 }
 
-// What a call with these buffers answers.
-pub fn file_answer(bytes: &[u8], still: &[u8], lent: Lent) -> File
-    ensures { λ r. ⌜ r ≡ fileAnswer (now (bytes .entry)) (now (still .entry)) lent ⌝ }
+// The answer to a recipe and a still, whatever is lent.
+pub fn picture_answer(bytes: &[u8], still: &[u8]) -> File
+    ensures { λ r. ⌜ r ≡ pictureAnswer (now (bytes .entry)) (now (still .entry)) ⌝ }
 {
     match recipe::read_recipe(bytes) {
         Recipe::Refused(n) => File::Refused(n),
         Recipe::Stages {
             count: _,
             tolerance,
-        } => still_answer(bytes, tolerance, still, lent),
+        } => still_answer(tolerance, still),
+    }
+}
+
+// The tests of the lent buffers for such an answer.
+pub fn lent_tests(recipe: &[u8], answer: File, lent: Lent) -> Verdict
+    requires { ⌜ Asked (now recipe) answer ⌝ }
+    ensures { λ r. ⌜ r ≡ verdict (lentTests (recipeStages (now (recipe .entry))) lent answer) ⌝ }
+{
+    match answer {
+        File::Refused(_) => Verdict::Passed,
+        File::Picture {
+            width,
+            height,
+            channels: _,
+            tolerance: _,
+            len,
+        } => room::tests(recipe, width, height, len, lent),
+    }
+}
+
+// What a call with these buffers answers.
+pub fn file_answer(recipe: &[u8], still: &[u8], lent: Lent) -> File
+    ensures { λ r. ⌜ r ≡ fileAnswer (now (recipe .entry)) (now (still .entry)) lent ⌝ }
+{
+    let answer = picture_answer(recipe, still);
+    match lent_tests(recipe, answer, lent) {
+        Verdict::Refused(n) => File::Refused(n),
+        Verdict::Passed => answer,
     }
 }

@@ -13,7 +13,7 @@ use Rattle.model.specs.Border.{Border}
 use Rattle.model.specs.Kernel.{Tap, Kernel, weightedSum, magnitude}
 use Rattle.model.specs.Apportion.{share, apportion}
 use Rattle.model.specs.Weighted.{rowValue}
-use Rattle.model.specs.Stage.{weighted, stage}
+use Rattle.model.specs.Stage.{weighted, Stage, stage}
 use Rattle.model.specs.Tolerance.{scaledGain, weightedGrowth, growth, afterStage, toleranceFrom, tolerance}
 use Rattle.model_laws.proofs.Weighted.{near-share, gain-law, abs-weightedSum, abs-row}
 
@@ -26,6 +26,17 @@ pub record Limited (c : ℕ) (K : Kernel) : Type 0 where
 pub gain-limited : (c : ℕ) (K : Kernel) → Limited c K → scaledGain K ≤ 65536 * c
 unfolding scaledGain
 gain-limited c K l = ceil-least (65536 * magnitude (K .taps)) (K .divisor) (65536 * c) (l .divisor) (omega (arith, l .gain))
+
+-- ---- T of any stages
+
+-- at most 255 levels
+pub tolerance-le : (ts : List Stage) → tolerance ts ≤ 16711680
+unfolding tolerance toleranceFrom afterStage
+tolerance-le ts = from ts 0 (omega arith)
+  where
+    from : (ts : List Stage) (T : ℕ) → T ≤ 16711680 → toleranceFrom T ts ≤ 16711680
+    from [] T h = h
+    from (t ∷ ts) T h = from ts (afterStage T t) (omega arith)
 
 -- ---- T of one weighted stage
 

@@ -55,6 +55,15 @@ denominator-pos (box r s) N o h = mul-pos h (area-pos r s)
 denominator-pos (rank r s p) N o h = h
 denominator-pos outline N o h = h
 
+-- the denominator of the exact chain is not 0, so that distances from it say something
+pub exact-denominator-pos : (ts : List Stage) → Sound ts → 0 < exactDenominator ts
+unfolding exactDenominator denominatorFrom
+exact-denominator-pos ts o = from ts 1 o (omega arith)
+  where
+    from : (ts : List Stage) (N : ℕ) → Sound ts → 0 < N → 0 < denominatorFrom N ts
+    from [] N o h = h
+    from (t ∷ ts) N o h = from ts (denominator N (t .work)) (o .2) (denominator-pos (t .work) N (o .0) h)
+
 result-close : (w : Work) (N T : ℕ) (f x : Neighbourhood) → SoundWork w → 0 < N → ((i j : ℤ) → f i j ≤ 255) → ((i j : ℤ) → Close T N (pos (f i j)) (pos (x i j)))
     → Close (growth w T) (denominator N w) (pos (result w f)) (pos (clamp (255 * denominator N w) (numerator w x)))
 unfolding growth denominator result numerator

@@ -11,6 +11,7 @@ use Rattle.lists.proofs.Raster.{length-raster}
 use Rattle.lists.proofs.Pairs.{Pairs, none, more, pairs-raster}
 use Rattle.model.specs.Plane.{Neighbourhood}
 use Rattle.model.specs.Window.{area, window}
+use Rattle.model.specs.Within.{distance, Within}
 
 pub length-window : (r s : ℕ) (f : Neighbourhood) → length (window r s f) ≡ area r s
 unfolding window area
@@ -36,6 +37,10 @@ pairs-window r s f g h = pairs-raster _ _ (2 * r + 1) (2 * s + 1) (λ u v. h (po
 pub record Apart (N e y x : ℕ) : Type 0 where
   pub le : 65536 * N * y ≤ 65536 * x + e
   pub ge : 65536 * x ≤ 65536 * N * y + e
+
+pub apart-of-within : (T N y x : ℕ) → Within T N y x → Apart N (T * N) y x
+unfolding Within distance
+apart-of-within T N y x w = omega (arith, w)
 
 pub apart-sum : {N e : ℕ} {ys xs : List ℕ} → Pairs (Apart N e) ys xs → Apart N (length ys * e) (sum ys) (sum xs)
 unfolding sum

@@ -11,24 +11,19 @@ use Rattle.answers.specs.declared.File.{File}
 use Rattle.answers.specs.declared.File.the-variants.{Refused, Picture}
 use Rattle.still_reader.specs.Read.{stillOf}
 use Rattle.header_writer.specs.Heading.{headerBytes}
-use Rattle.channels.proofs.Interleaved.{length-interleave}
 use Rattle.recipe.specs.Recipe.{recipeStages}
 use Rattle.room.specs.declared.Lent.{Lent}
 use Rattle.room.specs.Room.{lent}
 use Rattle.filter_answers.specs.FileAnswer.{fileSize, samplesOf, fileAnswer}
 use Rattle.filter_answers.proofs.FileAccepted.{file-accepted}
 use Rattle.raster_filter.specs.FilteredRaster.{filteredRaster}
+use Rattle.raster_filter.proofs.FilteredLaws.{filtered-length}
 use Rattle.file_filter.specs.FiltersFile.{refused, fileOutput, FiltersFile}
 use Rattle.program_filter.specs.Program.{programLent, programAnswer, savedLength, savedBytes, FiltersStill, Saves}
 
 -- two lists in front of a third
 pub front-two : (head middle tail whole : List ℕ) (n : ℕ) → n ≡ length head + length middle → whole ≡ head ++ (middle ++ tail) → take n whole ≡ head ++ middle
 front-two head middle tail whole n e o = rw (o, ← append-assoc head middle tail) (take-at (head ++ middle) tail n (rw length-append (omega (arith, e))))
-
--- a filtered raster is as long as the raster
-pub filtered-length : (W H c : ℕ) (ts : List Stage) (raster : List ℕ) → length (filteredRaster W H c ts raster) ≡ W * H * c
-unfolding filteredRaster
-filtered-length W H c ts raster = length-interleave c (W * H) _
 
 -- the front of the output after an answer of the file call
 pub saved-front : (recipe still out out′ : List ℕ) (l : Lent) (answer : File) → answer ≡ fileAnswer recipe still l

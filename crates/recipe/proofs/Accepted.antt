@@ -2,12 +2,11 @@
 use Prim.Native.Nat.{ℕ, zero, suc, _≤_}
 use native.Mathlib.Omega.{arith}
 use mathlib.Core.Path.{_≡_, refl, sym, ap, _∙_}
-use mathlib.Core.Bool.{true, false}
-use mathlib.Core.List.{List, [], _∷_}
+use mathlib.Core.List.{List}
 use lib.ListN.{length, drop}
-use Rattle.refusals.specs.Refusal.{Test, tested, verdict}
+use Rattle.refusals.specs.Refusal.{verdict}
 use Rattle.refusals.specs.declared.Verdict.the-variants as Verdict
-use Rattle.refusals.proofs.Passed.{AllPass, passed, all-append, all-pass, passed-all, between}
+use Rattle.refusals.proofs.Passed.{AllPass, passed, all-append, refused-tests, all-pass, passed-all, between}
 use Rattle.model.specs.Sound.{Sound, Bytes}
 use Rattle.model.specs.Tolerance.{tolerance}
 use Rattle.answers.specs.declared.Recipe.{Recipe}
@@ -65,10 +64,5 @@ recipe-sound b h e = stages-passed (at b 0) (drop 1 b) (bytes-drop 1 b h) (all-p
 
 -- one that was refused was so by its tests
 pub recipe-refused : (b : List ℕ) {n : ℕ} → recipeOf b ≡ Refused n → verdict (recipeTests b) ≡ Verdict.Refused n
-unfolding recipeOf verdict
-recipe-refused b e = refused-by (recipeTests b) _ (λ k f. let z : _≡_ {A = ℕ} 0 1 = cc in omega arith) e
-  where
-    refused-by : (ts : List Test) (x : Recipe) {n : ℕ} → ((k : ℕ) → x ≡ Refused k → ⊥) → tested Refused ts x ≡ Refused n → verdict ts ≡ Verdict.Refused n
-    refused-by [] x never f = absurd (never _ f)
-    refused-by ((true, m) ∷ ts) x never f = refused-by ts x never f
-    refused-by ((false, m) ∷ ts) x {n} never f = let d : m ≡ n = cc in ap Verdict.Refused d
+unfolding recipeOf
+recipe-refused b e = refused-tests Refused (λ m n f. cc) (recipeTests b) (Stages (at b 0) (tolerance (recipeStages b))) (λ k f. let z : _≡_ {A = ℕ} 0 1 = cc in omega arith) e

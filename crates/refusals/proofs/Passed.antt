@@ -46,6 +46,14 @@ module _ {A : Type 0} (refuse : ℕ → A) (answer : A) where
   pub refused-whole : (ts : List Test) {n : ℕ} → verdict ts ≡ Refused n → tested refuse ts answer ≡ refuse n
   refused-whole ts e = ap (λ (l : List Test). tested refuse l answer) (sym (append-nil ts)) ∙ refused-part refuse [] answer ts e
 
+-- an answer that is a refusal was refused by the tests, where what the call gives is none
+pub refused-tests : {A : Type 0} (refuse : ℕ → A) → ((m n : ℕ) → refuse m ≡ refuse n → m ≡ n) → (ts : List Test) (answer : A) {n : ℕ} → ((k : ℕ) → answer ≡ refuse k → ⊥)
+    → tested refuse ts answer ≡ refuse n → verdict ts ≡ Refused n
+unfolding verdict
+refused-tests refuse same [] answer never e = absurd (never _ e)
+refused-tests refuse same ((true, m) ∷ ts) answer never e = refused-tests refuse same ts answer never e
+refused-tests refuse same ((false, m) ∷ ts) answer {n} never e = ap Refused (same m n e)
+
 pub all-pass : (ts : List Test) → verdict ts ≡ Passed → AllPass ts
 unfolding verdict
 all-pass ts e = passed Refused ts Passed Passed (λ n f. let z : _≡_ {A = ℕ} 0 1 = cc in omega arith) e .0

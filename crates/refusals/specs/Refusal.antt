@@ -77,6 +77,13 @@ stillSize = 24
 abbrev pub backgroundFull : ℕ
 backgroundFull = 25
 
+-- 26 and 27, of the movement between two stills: another size or other channels · a limit over 255
+abbrev pub sizesDiffer : ℕ
+sizesDiffer = 26
+
+abbrev pub movementLimit : ℕ
+movementLimit = 27
+
 -- what must hold, and the refusal where it does not
 abbrev pub Test : Type 0
 Test = Bool × ℕ

@@ -51,6 +51,11 @@ pub const STILL_SIZE: u8 = 24;
 
 pub const BACKGROUND_FULL: u8 = 25;
 
+// The movement between two stills.
+pub const SIZES_DIFFER: u8 = 26;
+
+pub const MOVEMENT_LIMIT: u8 = 27;
+
 // What a run of tests finds: the refusal of the first that fails, or that all pass.
 pub enum Verdict {
     Refused(u8),

@@ -18,6 +18,8 @@ use Rattle.answers.specs.declared.Changed.{Changed}
 use Rattle.answers.specs.declared.Changed.the-variants as Changed
 use Rattle.answers.specs.declared.Mean.{Mean}
 use Rattle.answers.specs.declared.Mean.the-variants as Mean
+use Rattle.answers.specs.declared.Movement.{Movement}
+use Rattle.answers.specs.declared.Movement.the-variants as Movement
 
 -- an answer in numbers: one number for a refusal, with nothing beside it, or the values that were asked for
 pub data Told : Type 0 where
@@ -78,3 +80,8 @@ abbrev pub meanTold : Mean → Told
 meanTold (Mean.Refused n) = refusal n
 meanTold Mean.NoStills = values (0 ∷ 0 ∷ 0 ∷ [])
 meanTold (Mean.Of k T n) = values (k ∷ T ∷ n ∷ [])
+
+-- of `count_movement`: how many samples have moved, are still and are open, both T, and how many bytes were written into each output
+abbrev pub movementTold : Movement → Told
+movementTold (Movement.Refused n) = refusal n
+movementTold (Movement.Counts m s o T T′ n) = values (m ∷ s ∷ o ∷ T ∷ T′ ∷ n ∷ [])

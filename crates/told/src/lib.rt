@@ -4,11 +4,12 @@ use answers::File;
 use answers::Filtered;
 use answers::Held;
 use answers::Mean;
+use answers::Movement;
 use answers::Recipe;
 use answers::Still;
 use answers::Written;
 ghost use mathlib.Core.Path.{_≡_};
-ghost use Rattle.told.specs.Numbers.{Tells, stillTold, writtenTold, recipeTold, planeTold, fileTold, heldIn, changedTold, meanTold};
+ghost use Rattle.told.specs.Numbers.{Tells, stillTold, writtenTold, recipeTold, planeTold, fileTold, heldIn, changedTold, meanTold, movementTold};
 
 pub fn still(answer: Still, result: &mut [u64; 4]) -> u32
     ensures { λ r. ⌜ Tells (stillTold answer) (now (result .entry)) (now (result .exit)) r ⌝ }
@@ -131,6 +132,32 @@ pub fn mean(answer: Mean, result: &mut [u64; 3]) -> u32
             len,
         } => {
             *result = [stills as u64, tolerance, len as u64];
+            0
+        }
+    }
+}
+
+pub fn movement(answer: Movement, result: &mut [u64; 6]) -> u32
+    ensures { λ r. ⌜ Tells (movementTold answer) (now (result .entry)) (now (result .exit)) r ⌝ }
+{
+    match answer {
+        Movement::Refused(n) => n as u32,
+        Movement::Counts {
+            moved,
+            still,
+            open,
+            tolerance1,
+            tolerance2,
+            len,
+        } => {
+            *result = [
+                moved as u64,
+                still as u64,
+                open as u64,
+                tolerance1,
+                tolerance2,
+                len as u64,
+            ];
             0
         }
     }

@@ -46,7 +46,7 @@ pub fn after(text: &[u8], k: usize) -> usize
     i
 }
 
-// A number of up to ten digits with one byte more. Other bytes, as the LF of a line, are passed over.
+// A number of up to 19 digits with one byte more. Other bytes, as the LF of a line, are passed over.
 fn with_digit(value: usize, b: u8) -> usize {
     if b < 48 {
         return value;
@@ -54,7 +54,7 @@ fn with_digit(value: usize, b: u8) -> usize {
     if b > 57 {
         return value;
     }
-    value % 1000000000 * 10 + (b - 48) as usize
+    value % 1000000000000000000 * 10 + (b - 48) as usize
 }
 
 // The number that stands after k blanks, or 0.

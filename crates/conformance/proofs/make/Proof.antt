@@ -23,6 +23,9 @@ give-back-requires c κs = search needs
 keep-requires : tie.Need-keep-requires
 keep-requires c κs = search needs
 
+run-requires : tie.Need-run-requires
+run-requires c κs = search needs
+
 asked-requires : tie.Need-asked-requires
 asked-requires c κs = search needs
 
@@ -41,6 +44,9 @@ returns-3 c = search needs
 returns-4 : tie.Need-returns-4
 returns-4 c = search needs
 
+returns-5 : tie.Need-returns-5
+returns-5 c = search needs
+
 pub make-spec : {M : Type 1} → statement M
 make-spec =
     tie.close
@@ -51,9 +57,11 @@ make-spec =
     show-bytes-requires
     give-back-requires
     keep-requires
+    run-requires
     asked-requires
     filter-requires
     returns
     returns-2
     returns-3
-    returns-4)
+    returns-4
+    returns-5)

@@ -1,44 +1,36 @@
--- `filter_answers::file_answer` meets its contract: the recipe's tests, then the still's. Assumes nothing.
+-- `filter_answers::file_answer` meets its contract: the lent buffers are tested last. Assumes nothing.
 use mathlib.Core.Path.{sym, _∙_}
 use denote.Ref.{now}
-use Rattle.recipe.proofs.Accepted.{recipe-read}
-use Rattle.filter_answers.proofs.FileAccepted.{file-refused, file-left}
+use Rattle.filter_answers.proofs.FileAccepted.{answer-asked, file-refused, file-done}
 use borrow.Author.Needs.{needs}
 use Rattle.filter_answers.proofs.file_answer.Statement.{statement}
 use Rattle.filter_answers.proofs.file_answer.Tie as tie
 
-read-recipe-requires : tie.Need-read-recipe-requires
-read-recipe-requires c κs = search needs
+picture-answer-requires : tie.Need-picture-answer-requires
+picture-answer-requires c κs = search needs
+
+lent-tests-requires : tie.Need-lent-tests-requires
+lent-tests-requires c κs =
+    let a = c .before .before .before .args in
+    answer-asked (now (a .recipe)) (now (a .still)) _ (sym (c .picture-answer .ensures))
 
 enum-known-n : tie.Need-enum-known-n
 enum-known-n c = search needs
 
-enum-known-tolerance : tie.Need-enum-known-tolerance
-enum-known-tolerance c = search needs
-
-still-answer-requires : tie.Need-still-answer-requires
-still-answer-requires c κs =
-    let r = recipe-read (now (c .before .before .before .before .before .before .args .bytes)) (sym (c .before .before .before .read-recipe .ensures) ∙ c .before .tolerance .given .1) in
-    (r .0, sym (r .1))
+enum-told : tie.Need-enum-told
+enum-told c = search needs
 
 returns : tie.Need-returns
 returns c =
-    let a = c .before .before .before .before .before .before .args in
-    sym (file-refused (now (a .bytes)) (now (a .still)) _ (sym (c .before .before .before .read-recipe .ensures) ∙ c .before .n .given .1))
+    let a = c .before .before .before .before .before .before .before .args in
+    sym (file-refused (now (a .recipe)) (now (a .still)) (a .lent) (sym (c .before .before .before .before .picture-answer .ensures)) (sym (c .before .before .before .lent-tests .ensures) ∙ c .before .n .given .1))
 
 returns-2 : tie.Need-returns-2
 returns-2 c =
-    let a = c .before .before .before .before .before .before .before .args in
-    let r = recipe-read (now (a .bytes)) (sym (c .before .before .before .before .read-recipe .ensures) ∙ c .before .before .tolerance .given .1) in
-    c .still-answer .ensures ∙ sym (file-left (now (a .bytes)) (now (a .still)) _ (r .0))
+    let a = c .before .before .before .before .before .before .args in
+    sym (file-done (now (a .recipe)) (now (a .still)) (a .lent) (sym (c .before .before .before .picture-answer .ensures)) (sym (c .before .before .lent-tests .ensures) ∙ c .enum-told .given .1))
 
 pub file-answer-spec : {M : Type 1} → statement M
 file-answer-spec =
     tie.close
-    (tie.spec
-    read-recipe-requires
-    enum-known-n
-    enum-known-tolerance
-    still-answer-requires
-    returns
-    returns-2)
+    (tie.spec picture-answer-requires lent-tests-requires enum-known-n enum-told returns returns-2)

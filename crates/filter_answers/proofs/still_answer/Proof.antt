@@ -1,10 +1,10 @@
--- `filter_answers::still_answer` meets its contract: the still's tests, then the room. Assumes nothing.
+-- `filter_answers::still_answer` meets its contract, by what the still is read as. Assumes nothing.
 use native.Mathlib.Omega.{arith}
 use mathlib.Core.Path.{sym, _∙_}
 use denote.Ref.{now}
 use Rattle.header_writer.proofs.HeadingLaws.{header-length}
 use Rattle.filter_answers.specs.FileAnswer.{fileSize}
-use Rattle.filter_answers.proofs.FileAccepted.{shown, still-refused, room-refused, still-done}
+use Rattle.filter_answers.proofs.FileAccepted.{shown, still-refused, still-done}
 use borrow.Author.Needs.{needs}
 use Rattle.filter_answers.proofs.still_answer.Statement.{statement}
 use Rattle.filter_answers.proofs.still_answer.Tie as tie
@@ -20,46 +20,31 @@ enum-known-width c = search needs
 
 header-requires : tie.Need-header-requires
 header-requires c κs =
-    let s = shown (now (c .before .before .before .before .before .before .args .still)) (sym (c .before .before .before .read-still .ensures) ∙ c .before .width .given .1) in
+    let s = shown (now (c .before .before .before .before .before .args .still)) (sym (c .before .before .before .read-still .ensures) ∙ c .before .width .given .1) in
     (s .width .1, s .height .1)
 
 mul-len : tie.Need-mul-len
 mul-len c =
-    let s = shown (now (c .before .before .before .before .before .before .before .args .still)) (sym (c .before .before .before .before .read-still .ensures) ∙ c .before .before .width .given .1) in
+    let s = shown (now (c .before .before .before .before .before .before .args .still)) (sym (c .before .before .before .before .read-still .ensures) ∙ c .before .before .width .given .1) in
     record { fits = omega (arith, s .plane-small) }
 
 mul-len-2 : tie.Need-mul-len-2
 mul-len-2 c =
-    let s = shown (now (c .before .before .before .before .before .before .before .args .still)) (sym (c .before .before .before .before .read-still .ensures) ∙ c .before .before .width .given .1) in
+    let s = shown (now (c .before .before .before .before .before .before .args .still)) (sym (c .before .before .before .before .read-still .ensures) ∙ c .before .before .width .given .1) in
     record { fits = omega (arith, s .raster-small) }
 
 add-len : tie.Need-add-len
 add-len c =
     let g = c .before .before .before .width .given .0 in
-    let s = shown (now (c .before .before .before .before .before .before .before .before .args .still)) (sym (c .before .before .before .before .before .read-still .ensures) ∙ c .before .before .before .width .given .1) in
+    let s = shown (now (c .before .before .before .before .before .before .before .args .still)) (sym (c .before .before .before .before .before .read-still .ensures) ∙ c .before .before .before .width .given .1) in
     record { fits = omega (arith, s .raster-small, c .before .header .ensures .size, header-length (g .0) (g .1 .0) (g .1 .1 .0) (s .width .1) (s .height .1)) }
 
-tests-requires : tie.Need-tests-requires
-tests-requires c κs =
-    let s = shown (now (c .before .before .before .before .before .before .before .before .args .still)) (sym (c .before .before .before .before .before .read-still .ensures) ∙ c .before .before .before .width .given .1) in
-    (s .width .1, s .height .1, c .before .before .before .before .before .before .before .before .pre .0)
-
-enum-known-n-2 : tie.Need-enum-known-n-2
-enum-known-n-2 c = search needs
-
-enum-told : tie.Need-enum-told
-enum-told c = search needs
-
 returns : tie.Need-returns
-returns c = sym (still-refused _ _ (sym (c .before .before .before .read-still .ensures) ∙ c .before .n .given .1))
+returns c = sym (still-refused _ (sym (c .before .before .before .read-still .ensures) ∙ c .before .n .given .1))
 
 returns-2 : tie.Need-returns-2
 unfolding fileSize
-returns-2 c = sym (room-refused _ _ (sym (c .before .before .before .before .before .before .before .before .before .read-still .ensures) ∙ c .before .before .before .before .before .before .before .width .given .1) (rw (← c .before .before .before .before .before .header .ensures .size) (sym (c .before .before .before .tests .ensures) ∙ c .before .n2 .given .1)))
-
-returns-3 : tie.Need-returns-3
-unfolding fileSize
-returns-3 c = sym (still-done _ _ (sym (c .before .before .before .before .before .before .before .before .read-still .ensures) ∙ c .before .before .before .before .before .before .width .given .1) (rw (← c .before .before .before .before .header .ensures .size) (sym (c .before .before .tests .ensures) ∙ c .enum-told .given .1)) ∙ rw (c .before .before .before .before .before .before .before .before .before .before .before .pre .1, c .before .before .before .before .header .ensures .size))
+returns-2 c = sym (still-done _ (sym (c .before .before .before .before .before .read-still .ensures) ∙ c .before .before .before .width .given .1) ∙ rw (c .before .header .ensures .size))
 
 pub still-answer-spec : {M : Type 1} → statement M
 still-answer-spec =
@@ -72,9 +57,5 @@ still-answer-spec =
     mul-len
     mul-len-2
     add-len
-    tests-requires
-    enum-known-n-2
-    enum-told
     returns
-    returns-2
-    returns-3)
+    returns-2)

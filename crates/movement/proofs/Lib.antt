@@ -1,0 +1,2 @@
+pub mod Truth
+pub mod Counting
