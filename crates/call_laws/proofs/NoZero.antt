@@ -40,8 +40,9 @@ use Rattle.room.specs.declared.Lent.{Lent}
 use Rattle.room.specs.Room.{lent, roomTests}
 use Rattle.filter_answers.specs.PlaneAnswer.{planeTests, planeAnswer}
 use Rattle.filter_answers.specs.FileAnswer.{stillAnswer, pictureAnswer, lentTests, fileAnswer}
+use Rattle.movement.specs.Order.{refusalTests, sameSize, inOrder}
 use Rattle.movement_answers.specs.Run.{Run, stages, asked}
-use Rattle.movement_answers.specs.MovementAnswer.{refusalTests, sameSize, movementTests, motionsBetween, counts, movementAnswer}
+use Rattle.movement_answers.specs.MovementAnswer.{movementTests, motionsBetween, counts, movementAnswer}
 use Rattle.background.specs.Background.{Background, stills, samples}
 use Rattle.background.specs.Change.{Outcome, refused, changed, addTests, additionOf, addition, removeTests, removal}
 use Rattle.background.specs.Mean.{meanTolerance, meanTests, meanAnswer}
@@ -224,7 +225,7 @@ refusal-numbered (File.Refused n) h = rw (le-leb 1 n (h n refl))
 refusal-numbered (File.Picture W H c T n) h = refl
 
 pub count-movement-number : (L : ℕ) (a b : Run) (n : ℕ) → movementAnswer L a b ≡ Movement.Refused n → 1 ≤ n
-unfolding movementAnswer movementTests
+unfolding movementAnswer movementTests inOrder
 count-movement-number L a b n e = refused-number Movement.Refused (λ m k f. cc) (movementTests L a b) (counts (motionsBetween L a b) a b) n all other e
   where
     own : List Test

@@ -13,7 +13,7 @@ use Rattle.lists.proofs.Sums.{count-more}
 use Rattle.model.specs.Within.{distance}
 use Rattle.movement.specs.Motion.{Motion, surelyMoved, surelyStill, motion}
 use Rattle.movement.specs.Motions.{motions, isMoved, isStill, movedCount, stillCount, Counted}
-use Rattle.movement.proofs.Counting.{counts-add-up, is-moved, is-still}
+use Rattle.movement_laws.proofs.Counting.{counts-add-up, is-moved, is-still}
 
 -- the motion at a place
 abbrev pub at : ℕ → ℕ → ℕ → List ℕ → List ℕ → ℕ → Motion

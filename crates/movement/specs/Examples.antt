@@ -3,13 +3,19 @@ use Prim.Native.Nat.{ℕ}
 use Prim.Native.String.{String}
 use mathlib.Core.List.{List, [], _∷_, _++_, map}
 use mathlib.Core.Path.{_≡_, refl}
+use mathlib.Core.Bool.{false}
 use lib.ListN.{replicate}
 use Rattle.lists.specs.Count.{count}
 use Rattle.lists.specs.Tabulate.{tabulate}
 use Rattle.model.specs.Within.{distance}
+use Rattle.refusals.specs.Refusal as Refusal
+use Rattle.refusals.specs.Refusal.{Test, tested}
+use Rattle.answers.specs.declared.File.{File}
+use Rattle.answers.specs.declared.File.the-variants.{Refused, Picture}
 use Rattle.movement.specs.Motion.{Motion, moved, still, unsettled, surelyMoved, surelyStill, motion}
 use Rattle.movement.specs.Motions.{motions, movedCount, stillCount, openCount}
 use Rattle.movement.specs.Truth.{exactDifference}
+use Rattle.movement.specs.Order.{inOrder}
 
 pub data Answer : Type 0 where
   samples : List Motion → Answer
@@ -35,6 +41,21 @@ all L T T′ = apart L T T′ (tabulate (λ d. d) 256)
 unfoldable pub counted : List Motion → Answer
 counted ms = numbers (movedCount ms ∷ stillCount ms ∷ openCount ms ∷ [])
 
+-- what a run comes to: a picture of some size and T, of one channel
+unfoldable pub picture : ℕ → ℕ → ℕ → File
+picture W H c = Picture W H c 0 0
+
+unfoldable pub grey : ℕ → ℕ → File
+grey W H = picture W H 1
+
+-- lent buffers of which one is too short
+unfoldable pub lacking : List Test
+lacking = (false, Refusal.room) ∷ []
+
+-- what tests in this order come to: a refusal's number, or 0
+unfoldable pub ordered : ℕ → File → File → List Test → List Test → ℕ
+ordered L first second lent1 lent2 = tested (λ n. n) (inOrder L first second lent1 lent2) 0
+
 -- With L 4 and tolerances of 30,000 and 35,536, which come to one level: 3 levels and that one are the 4 of the limit, and still; 5 levels do not pass 4 and one, and are
 -- open. One unit of tolerance more, and 3 is open; one less, and 5 has moved. 7/2 - 1/3 is 19/6, and so is its magnitude the other way round.
 unfoldable pub rows : List Example
@@ -54,12 +75,16 @@ rows =
     (samples (motions 4 30000 35536 (10 ∷ 23 ∷ 30 ∷ 46 ∷ []) (10 ∷ 20 ∷ 35 ∷ 40 ∷ [])))
     (samples (still ∷ still ∷ unsettled ∷ moved ∷ []))
     ∷ row "how many: moved, still, open" (counted (motions 4 30000 35536 (10 ∷ 23 ∷ 30 ∷ 46 ∷ []) (10 ∷ 20 ∷ 35 ∷ 40 ∷ []))) (numbers (1 ∷ 2 ∷ 1 ∷ []))
+    ∷ row "the limit comes before everything" (numbers (ordered 256 (Refused 13) (Refused 5) lacking lacking ∷ ordered 255 (Refused 13) (Refused 5) lacking lacking ∷ [])) (numbers (27 ∷ 13 ∷ []))
+    ∷ row "then the first run's refusal, then the second's, and then the sizes" (numbers (ordered 0 (Refused 5) (Refused 13) lacking lacking ∷ ordered 0 (grey 3 2) (Refused 6) lacking lacking ∷ ordered 0 (grey 3 2) (grey 2 3) lacking lacking ∷ [])) (numbers (5 ∷ 6 ∷ 26 ∷ []))
+    ∷ row "width, height and channels" (numbers (ordered 0 (grey 3 2) (grey 4 2) [] [] ∷ ordered 0 (grey 3 2) (grey 3 1) [] [] ∷ ordered 0 (grey 3 2) (picture 3 2 3) [] [] ∷ [])) (numbers (26 ∷ 26 ∷ 26 ∷ []))
+    ∷ row "room for either run comes last" (numbers (ordered 0 (grey 3 2) (grey 3 2) lacking [] ∷ ordered 0 (grey 3 2) (grey 3 2) [] lacking ∷ ordered 0 (grey 3 2) (grey 3 2) [] [] ∷ [])) (numbers (20 ∷ 20 ∷ 0 ∷ []))
     ∷ row "7/2 and 1/3 are 19/6 apart" (numbers (exactDifference 2 7 3 1 ∷ exactDifference 3 1 2 7 ∷ [])) (numbers (19 ∷ 19 ∷ []))
     ∷ []
 
 -- every definition that an example runs through, opened by one name
 opened : Unit {0}
-unfolding count tabulate distance surelyMoved surelyStill motion motions exactDifference row apart all counted
+unfolding count tabulate distance surelyMoved surelyStill motion motions exactDifference inOrder row apart all counted picture grey lacking ordered
 opened = tt
 
 -- THE WORKED EXAMPLES HOLD, by computation

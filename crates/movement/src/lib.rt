@@ -1,1 +1,1 @@
-// The movement between two samples: definitions (specs/) and what is proved of them (proofs/). No code.
+// The movement between two stills as definitions, with worked examples: no code.

@@ -13,8 +13,9 @@ use Rattle.answers.specs.declared.File.the-variants as File
 use Rattle.answers.specs.declared.Movement.the-variants as Movement
 use Rattle.filter_answers.specs.FileAnswer.{fileSize, lentTests, fileAnswer}
 use Rattle.filter_answers.proofs.FileAccepted.{pictured, file-done}
+use Rattle.movement.specs.Order.{inOrder}
 use Rattle.movement_answers.specs.Run.{Run, stages, asked}
-use Rattle.movement_answers.specs.MovementAnswer.{refusalTests, sameSize, movementTests, lengthOf, motionsBetween, counts, movementAnswer}
+use Rattle.movement_answers.specs.MovementAnswer.{movementTests, lengthOf, motionsBetween, counts, movementAnswer}
 use Rattle.movement_answers.specs.declared.Pair.{Pair}
 use Rattle.movement_answers.specs.declared.Plan.{Plan}
 use Rattle.movement_answers.specs.declared.Plan.the-variants.{Refused, Runs}
@@ -36,10 +37,10 @@ pub record Shown (L : ℕ) (a b : Run) (p : Pair) : Type 0 where
 module _ (L : ℕ) (a b : Run) where
   -- all tests passed, of what the runs come to
   AllPassed : File → File → Type 0
-  AllPassed x y = AllPass ((leb L 255, movementLimit) ∷ refusalTests x ++ refusalTests y ++ (sameSize x y, sizesDiffer) ∷ lentTests (stages a) (a .lent) x ++ lentTests (stages b) (b .lent) y)
+  AllPassed x y = AllPass (inOrder L x y (lentTests (stages a) (a .lent) x) (lentTests (stages b) (b .lent) y))
 
   by-pictures : (x y : File) → asked a ≡ x → asked b ≡ y → AllPassed x y → movementAnswer L a b ≡ counts (motionsBetween L a b) a b → Shown L a b (pairOf a b)
-  unfolding AllPassed
+  unfolding AllPassed inOrder
   by-pictures (File.Refused n) y e f h g = let t : false ≡ true = h .1 .0 in let z : _≡_ {A = ℕ} 0 1 = cc in absurd (omega arith)
   by-pictures (File.Picture W H c T n) (File.Refused m) e f h g = let t : false ≡ true = h .1 .0 in let z : _≡_ {A = ℕ} 0 1 = cc in absurd (omega arith)
   by-pictures (File.Picture W H c T n) (File.Picture W′ H′ c′ T′ n′) e f h g =

@@ -1,9 +1,6 @@
 -- What `count_movement` answers to two runs, a and b, and a limit of L levels.
 use Prim.Native.Nat.{ℕ}
-use mathlib.Core.Bool.{Bool, false, _&&_}
-use mathlib.Core.List.{List, [], _∷_, _++_}
-use lib.Dec.{leb, eqb}
-use Rattle.refusals.specs.Refusal as Refusal
+use mathlib.Core.List.{List}
 use Rattle.refusals.specs.Refusal.{Test, tested}
 use Rattle.model.specs.Tolerance.{tolerance}
 use Rattle.answers.specs.declared.File.{File}
@@ -11,30 +8,14 @@ use Rattle.answers.specs.declared.File.the-variants as File
 use Rattle.answers.specs.declared.Movement.{Movement}
 use Rattle.answers.specs.declared.Movement.the-variants.{Refused, Counts}
 use Rattle.filter_answers.specs.FileAnswer.{lentTests}
+use Rattle.movement.specs.Order.{inOrder}
 use Rattle.movement.specs.Motion.{Motion}
 use Rattle.movement.specs.Motions.{motions, movedCount, stillCount, openCount}
 use Rattle.movement_answers.specs.Run.{Run, stages, asked, filtered}
 
--- a refusal as a test that fails; a picture passes
-abbrev pub refusalTests : File → List Test
-refusalTests (File.Refused n) = (false, n) ∷ []
-refusalTests (File.Picture W H c T n) = []
-
--- whether two pictures have the same width, height and channels
-abbrev pub sameSize : File → File → Bool
-sameSize (File.Refused n) b = false
-sameSize (File.Picture W H c T n) (File.Refused n′) = false
-sameSize (File.Picture W H c T n) (File.Picture W′ H′ c′ T′ n′) = eqb W W′ && eqb H H′ && eqb c c′
-
--- the tests in their order: the limit (27), the first recipe's and the first still's, the second recipe's and the second still's, the sizes (26), what is lent to either run (20)
+-- the tests in their order
 unfoldable pub movementTests : ℕ → Run → Run → List Test
-movementTests L a b =
-    (leb L 255, Refusal.movementLimit)
-    ∷ refusalTests (asked a)
-    ++ refusalTests (asked b)
-    ++ (sameSize (asked a) (asked b), Refusal.sizesDiffer)
-    ∷ lentTests (stages a) (a .lent) (asked a)
-    ++ lentTests (stages b) (b .lent) (asked b)
+movementTests L a b = inOrder L (asked a) (asked b) (lentTests (stages a) (a .lent) (asked a)) (lentTests (stages b) (b .lent) (asked b))
 
 -- how many bytes a picture's file has
 abbrev pub lengthOf : File → ℕ

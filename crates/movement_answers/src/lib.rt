@@ -7,8 +7,8 @@ ghost use mathlib.Core.List.{_∷_, _++_};
 ghost use Rattle.refusals.specs.Refusal.{verdict, sizesDiffer};
 ghost use Rattle.recipe.specs.Recipe.{recipeStages};
 ghost use Rattle.filter_answers.specs.FileAnswer.{Asked, lentTests};
+ghost use Rattle.movement.specs.Order.{sameSize};
 ghost use Rattle.movement_answers.specs.Run.{run};
-ghost use Rattle.movement_answers.specs.MovementAnswer.{sameSize};
 ghost use Rattle.movement_answers.specs.Plan.{planOf};
 
 // Two pictures of one size: how many samples each has, how long the file of each is, and the tolerance of each.

@@ -27,8 +27,8 @@ use Rattle.file_filter.specs.FiltersFile.{FileWithin}
 use Rattle.movement.specs.Motion.{unsettled}
 use Rattle.movement.specs.Motions.{motions}
 use Rattle.movement.specs.Truth.{TrueOf}
-use Rattle.movement.proofs.Truth.{motion-true}
-use Rattle.movement.proofs.Counting.{counts-add-up, motions-length, motion-at}
+use Rattle.movement_laws.proofs.Truth.{motion-true}
+use Rattle.movement_laws.proofs.Counting.{counts-add-up, motions-length, motion-at}
 use Rattle.movement_answers.specs.declared.Pair.{Pair}
 use Rattle.movement_answers.specs.Run.{Run, stages, samples, filtered}
 use Rattle.movement_answers.specs.MovementAnswer.{motionsBetween, movementAnswer}

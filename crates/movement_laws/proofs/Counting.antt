@@ -7,9 +7,9 @@ use mathlib.Core.List.{List, [], _∷_}
 use lib.ListN.{length, getD}
 use Rattle.lists.specs.Count.{count}
 use Rattle.lists.proofs.Tabulate.{length-tabulate, getD-tabulate}
 use Rattle.movement.specs.Motion.{Motion, moved, still, unsettled, surelyMoved, surelyStill, motion}
 use Rattle.movement.specs.Motions.{motions, isMoved, isStill, isOpen, movedCount, stillCount, openCount}
-use Rattle.movement.proofs.Truth.{never-both}
+use Rattle.movement_laws.proofs.Truth.{never-both}
 
 -- each motion is of one kind, so the three counts add up
 pub counts-add-up : (ms : List Motion) → movedCount ms + stillCount ms + openCount ms ≡ length ms

@@ -1,0 +1,1 @@
+// What is proved of the movement between two samples: no code.
