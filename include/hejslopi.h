@@ -1,12 +1,13 @@
-/* Hejslopi: Netpbm stills (P5, P6) filtered by a recipe, and their mean. The interface for C (from C99) and C++ (from C++11).
+/* Hejslopi: Netpbm stills (P5, P6) filtered by a recipe, the movement between two of them, and the mean of many.
+ * The interface for C (from C99) and C++ (from C++11).
  *
  * Link with target/staticlib/libcapi.a, which `rt staticlib capi` proves and builds (x86-64 Linux). It needs memcpy and
  * memset and nothing else of the C library.
  *
  * Every call returns 0 when it is done, or the number of a refusal. The first test that fails decides.
- * - Done: the values are in `result`, in the order given below. The output is written from its start; what is behind it in
+ * - Done: the values are in `result`, in the order given below. An output is written from its start; what is behind it in
  *   the lent buffer stays. Of the work buffers (work, rows, sums) nothing is promised.
- * - Refused: no lent buffer is altered, neither `result`, nor the output, nor the work buffers, nor a background.
+ * - Refused: no lent buffer is altered, neither `result`, nor an output, nor the work buffers, nor a background.
  * No content of the given bytes and no length of a lent buffer is an error of the program: each is answered.
  *
  * The caller owns all memory. Nothing is allocated, and no pointer is kept after a call returns. A call has no state and
@@ -64,7 +65,11 @@ enum hejslopi_refusal {
     /* the background */
     HEJSLOPI_STILL_NUMBER = 23,
     HEJSLOPI_STILL_SIZE = 24,
-    HEJSLOPI_BACKGROUND_FULL = 25
+    HEJSLOPI_BACKGROUND_FULL = 25,
+
+    /* the movement */
+    HEJSLOPI_SIZES_DIFFER = 26,
+    HEJSLOPI_MOVEMENT_LIMIT = 27
 };
 
 /* What a returned number means: "done" for 0, "unknown" for one that is no refusal's. */
@@ -94,6 +99,8 @@ static inline const char *hejslopi_meaning(uint32_t number)
     case HEJSLOPI_STILL_NUMBER: return "the number to add is already there, or the number to remove is not";
     case HEJSLOPI_STILL_SIZE: return "the still has another size or other channels than those held";
     case HEJSLOPI_BACKGROUND_FULL: return "a thousand stills are already held";
+    case HEJSLOPI_SIZES_DIFFER: return "the two stills have different sizes or channels";
+    case HEJSLOPI_MOVEMENT_LIMIT: return "the movement limit is over 255";
     default: return "unknown";
     }
 }
@@ -152,6 +159,27 @@ uint32_t hejslopi_filter_file(const uint8_t *recipe, size_t recipe_len,
                               int32_t *rows, size_t rows_len,
                               uint32_t *sums, size_t sums_len,
                               uint8_t *out, size_t out_len, uint64_t result[5]);
+
+/* Filter two stills of one size, each by its own recipe, and count the movement between them under a limit of 0 to 255 levels,
+ * over all samples of all channels. With d for the difference of two written samples of one place, T1 and T2 for the tolerances:
+ * - moved: 65,536 |d| > 65,536 limit + T1 + T2. The exact results of such a sample differ by more than the limit.
+ * - still: 65,536 |d| + T1 + T2 <= 65,536 limit. The exact results of such a sample differ by no more than the limit.
+ * - open: the others. Rounding may have decided.
+ * Needs: WORK bytes in work, ROWS in rows, the largest SUMS of both recipes' box stages in sums; header and raster in each of out1
+ * and out2. Each output then holds its filtered file, as hejslopi_filter_file writes it.
+ * result: how many samples moved, how many are still, how many are open (width * height * channels in all), T1, T2, and how many
+ * bytes of each output were written.
+ * Refusals: 27, then 10 to 18 and 1 to 6 of the first, 10 to 18 and 1 to 6 of the second, then 26, 20. */
+uint32_t hejslopi_movement(const uint8_t *recipe1, size_t recipe1_len,
+                           const uint8_t *still1, size_t still1_len,
+                           const uint8_t *recipe2, size_t recipe2_len,
+                           const uint8_t *still2, size_t still2_len,
+                           uint64_t limit,
+                           uint8_t *work, size_t work_len,
+                           int32_t *rows, size_t rows_len,
+                           uint32_t *sums, size_t sums_len,
+                           uint8_t *out1, size_t out1_len,
+                           uint8_t *out2, size_t out2_len, uint64_t result[6]);
 
 /* A background: up to 1,000 stills of one size, and their mean. It lies in memory that the caller lends to each call anew:
  * - held: how many stills there are, and their width, height and channels. All 0 at first.

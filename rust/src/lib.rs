@@ -1,9 +1,9 @@
-//! Netpbm stills (P5, P6) filtered by a recipe, and their mean.
+//! Netpbm stills (P5, P6) filtered by a recipe, the movement between two of them, and the mean of many.
 //!
-//! Eight calls: [`read_still`], [`write_still`], [`read_recipe`], [`filter_plane`], [`filter_file`], and three on a [`Background`],
-//! which keeps stills and gives their mean. Those that write have a form `.._into` that takes lent buffers and allocates nothing
-//! ([`remove_still_from`] is that of a removal). A [`Refusal`] says why a call did nothing, and [`faulty_stage`] which stage of a
-//! recipe is to blame.
+//! Nine calls: [`read_still`], [`write_still`], [`read_recipe`], [`filter_plane`], [`filter_file`], [`movement`], and three on a
+//! [`Background`], which keeps stills and gives their mean. Those that write have a form `.._into` that takes lent buffers and
+//! allocates nothing ([`remove_still_from`] is that of a removal). A [`Refusal`] says why a call did nothing, and [`faulty_stage`]
+//! which stage of a recipe is to blame.
 //!
 //! ```
 //! let still = b"P5\n3 1\n255\n\x0A\x14\x28";
@@ -16,6 +16,7 @@
 
 mod background;
 mod fault;
+mod movement;
 pub mod raw;
 mod refusal;
 mod room;
@@ -23,6 +24,7 @@ mod room;
 pub use background::{add_still_into, mean_still_into, remove_still_from};
 pub use background::{Background, Held, Mean, MeanPicture, MOST_STILLS};
 pub use fault::faulty_stage;
+pub use movement::{movement, movement_into, Counts, Movement};
 pub use refusal::Refusal;
 use room::zeros;
 pub use room::{background_needs, file_need, needs, BackgroundNeeds, Lent, Needs, Room};

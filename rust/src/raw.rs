@@ -51,6 +51,29 @@ extern "C" {
         result: *mut [u64; 5],
     ) -> u32;
 
+    pub fn hejslopi_movement(
+        recipe1: *const u8,
+        recipe1_len: usize,
+        still1: *const u8,
+        still1_len: usize,
+        recipe2: *const u8,
+        recipe2_len: usize,
+        still2: *const u8,
+        still2_len: usize,
+        limit: u64,
+        work: *mut u8,
+        work_len: usize,
+        rows: *mut i32,
+        rows_len: usize,
+        sums: *mut u32,
+        sums_len: usize,
+        out1: *mut u8,
+        out1_len: usize,
+        out2: *mut u8,
+        out2_len: usize,
+        result: *mut [u64; 6],
+    ) -> u32;
+
     pub fn hejslopi_background_add(
         still: *const u8,
         still_len: usize,
@@ -109,9 +132,9 @@ pub fn read_recipe(bytes: &[u8], result: &mut [u64; 2]) -> u32 {
     unsafe { hejslopi_read_recipe(bytes.as_ptr(), bytes.len(), result) }
 }
 
-/// Calls a filtering function: what it reads first, then the lent buffers and the output.
+/// Calls a filtering function: what it reads first, then the lent buffers and the outputs.
 macro_rules! filtering {
-    ($function:ident($($first:expr),*), $lent:expr, $out:expr, $result:expr) => {{
+    ($function:ident($($first:expr),*), $lent:expr, [$($out:expr),*], $result:expr) => {{
         let Lent { work, rows, sums } = $lent;
         unsafe {
             $function(
@@ -122,8 +145,7 @@ macro_rules! filtering {
                 rows.len(),
                 sums.as_mut_ptr(),
                 sums.len(),
-                $out.as_mut_ptr(),
-                $out.len(),
+                $($out.as_mut_ptr(), $out.len(),)*
                 $result,
             )
         }
@@ -142,7 +164,7 @@ pub fn filter_plane(
     filtering!(
         hejslopi_filter_plane(r, recipe.len(), width, height, p, plane.len()),
         lent,
-        out,
+        [out],
         result
     )
 }
@@ -158,7 +180,36 @@ pub fn filter_file(
     filtering!(
         hejslopi_filter_file(r, recipe.len(), s, still.len()),
         lent,
-        out,
+        [out],
+        result
+    )
+}
+
+/// A recipe and the still that it filters, twice.
+pub fn movement(
+    [recipe1, still1]: [&[u8]; 2],
+    [recipe2, still2]: [&[u8]; 2],
+    limit: u64,
+    lent: Lent<'_>,
+    [out1, out2]: [&mut [u8]; 2],
+    result: &mut [u64; 6],
+) -> u32 {
+    let (r1, s1) = (recipe1.as_ptr(), still1.as_ptr());
+    let (r2, s2) = (recipe2.as_ptr(), still2.as_ptr());
+    filtering!(
+        hejslopi_movement(
+            r1,
+            recipe1.len(),
+            s1,
+            still1.len(),
+            r2,
+            recipe2.len(),
+            s2,
+            still2.len(),
+            limit
+        ),
+        lent,
+        [out1, out2],
         result
     )
 }

@@ -26,11 +26,13 @@ pub enum Refusal {
     StillNumber = 23,
     StillSize = 24,
     BackgroundFull = 25,
+    SizesDiffer = 26,
+    MovementLimit = 27,
 }
 
 impl Refusal {
     /// Every refusal. 21 and 22 are of programs that read files: no call gives them.
-    pub const ALL: [Refusal; 22] = [
+    pub const ALL: [Refusal; 24] = [
         Refusal::Magic,
         Refusal::Header,
         Refusal::Side,
@@ -53,6 +55,8 @@ impl Refusal {
         Refusal::StillNumber,
         Refusal::StillSize,
         Refusal::BackgroundFull,
+        Refusal::SizesDiffer,
+        Refusal::MovementLimit,
     ];
 
     pub fn number(self) -> u32 {
@@ -89,6 +93,8 @@ impl fmt::Display for Refusal {
             Refusal::StillNumber => "the number to add is already there, or the number to remove is not",
             Refusal::StillSize => "the still has another size or other channels than those held",
             Refusal::BackgroundFull => "a thousand stills are already held",
+            Refusal::SizesDiffer => "the two stills have different sizes or channels",
+            Refusal::MovementLimit => "the movement limit is over 255",
         })
     }
 }

@@ -8,6 +8,17 @@ pub struct Needs {
     pub sums: usize,
 }
 
+impl Needs {
+    /// The larger of each: enough for both.
+    pub fn max(self, other: Needs) -> Needs {
+        Needs {
+            work: self.work.max(other.work),
+            rows: self.rows.max(other.rows),
+            sums: self.sums.max(other.sums),
+        }
+    }
+}
+
 /// Buffers lent to a call. Nothing is promised of them once it has filtered.
 pub struct Lent<'a> {
     pub work: &'a mut [u8],

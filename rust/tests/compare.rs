@@ -124,44 +124,6 @@ fn stills_are_written_alike() {
     });
 }
 
-/// A need as it is, with spare, one short in each place, and with nothing lent.
-fn lengths(rng: &mut Rng, need: Lengths) -> Vec<Lengths> {
-    let mut all = vec![
-        need,
-        Lengths {
-            work: need.work + rng.size(0, 9),
-            rows: need.rows + rng.size(0, 9),
-            sums: need.sums + rng.size(0, 9),
-            out: need.out + rng.size(0, 9),
-        },
-        Lengths {
-            work: need.work - 1,
-            ..need
-        },
-        Lengths {
-            rows: need.rows - 1,
-            ..need
-        },
-        Lengths {
-            out: need.out - 1,
-            ..need
-        },
-        Lengths {
-            work: 0,
-            rows: 0,
-            sums: 0,
-            out: 0,
-        },
-    ];
-    if need.sums > 0 {
-        all.push(Lengths {
-            sums: need.sums - 1,
-            ..need
-        });
-    }
-    all
-}
-
 fn planes(name: &str, count: u64, nanoseconds: usize) {
     compare(name, count, |rng, tally| {
         let stages = if rng.one_in(20) { 2 } else { 1 };
@@ -199,7 +161,7 @@ fn planes(name: &str, count: u64, nanoseconds: usize) {
         } else {
             reference::needs(&stages, w, h, w * h)
         };
-        for lengths in lengths(rng, need) {
+        for lengths in inputs::lengths(rng, need) {
             tally.add(calls::filter_plane(rng, &recipe, w, h, &plane, lengths)?);
         }
         Ok(())
@@ -249,7 +211,7 @@ fn files(name: &str, count: u64, nanoseconds: usize) {
                 out: 99,
             },
         };
-        for lengths in lengths(rng, need) {
+        for lengths in inputs::lengths(rng, need) {
             tally.add(calls::filter_file(rng, &recipe, &still, lengths)?);
         }
         Ok(())

@@ -241,8 +241,8 @@ fn vectors() {
     for entry in std::fs::read_dir(&folder).unwrap() {
         let case = entry.unwrap().path();
         let file = |name: &str| std::fs::read(case.join(name)).ok();
-        // scripts are of backgrounds, which the program knows nothing of: tests/scripts.rs runs them
-        if file("script").is_some() {
+        // the program knows nothing of backgrounds and of movement: tests/scripts.rs and tests/movement_examples.rs run these
+        if file("script").is_some() || file("still1").is_some() {
             continue;
         }
         let line = String::from_utf8(file("line").unwrap()).unwrap();
@@ -357,7 +357,10 @@ fn refusals_have_numbers_and_words() {
     let numbers: Vec<u32> = Refusal::ALL.iter().map(|r| r.number()).collect();
     assert_eq!(
         numbers,
-        [1, 2, 3, 4, 5, 6, 10, 11, 12, 13, 14, 15, 16, 17, 18, 19, 20, 21, 22, 23, 24, 25]
+        [
+            1, 2, 3, 4, 5, 6, 10, 11, 12, 13, 14, 15, 16, 17, 18, 19, 20, 21, 22, 23, 24, 25, 26,
+            27
+        ]
     );
     for refusal in Refusal::ALL {
         assert_eq!(Refusal::from_number(refusal.number()), Some(refusal));
@@ -374,22 +377,23 @@ fn threads_with_small_stacks() {
     ];
     let raster: Vec<u8> = (0..8192 * 4).map(|k| (k * k >> 7) as u8).collect();
     let still = hejslopi::write_still(8192, 4, 1, &raster).unwrap();
-    let filter_and_keep = || {
+    let make_calls = || {
         let file = hejslopi::filter_file(&recipe, &still).unwrap();
         let mut kept = hejslopi::Background::new();
         for number in 0..3 {
             kept.add(&file.bytes, number, 0).unwrap();
         }
         kept.remove(0).unwrap();
-        (file, kept.mean().unwrap())
+        let seen = hejslopi::movement(&recipe, &still, &recipe, &file.bytes, 9).unwrap();
+        (file, kept.mean().unwrap(), seen)
     };
-    let alone = filter_and_keep();
+    let alone = make_calls();
     std::thread::scope(|scope| {
         let threads: Vec<_> = (0..4)
             .map(|_| {
                 std::thread::Builder::new()
                     .stack_size(128 * 1024)
-                    .spawn_scoped(scope, filter_and_keep)
+                    .spawn_scoped(scope, make_calls)
                     .unwrap()
             })
             .collect();

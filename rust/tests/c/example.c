@@ -34,6 +34,35 @@ static int background(void)
     return 0;
 }
 
+/* Two stills in just as much memory as they need: 0, 20 and 60 levels apart once filtered, with a tolerance of 34301/65536 each. */
+static int movement(void)
+{
+    static const uint8_t first[] = "P5\n3 1\n255\n\x0A\x14\x28", second[] = "P5\n3 1\n255\n\x0A\x14\x78", other[] = "P5\n1 1\n255\n\x07";
+    static const uint8_t filtered1[] = "P5\n3 1\n255\n\x0D\x17\x23", filtered2[] = "P5\n3 1\n255\n\x0D\x2B\x5F";
+    static const uint8_t recipe[] = { 1, 3, 1, 0, 1, 0 };
+    enum { LENGTH = sizeof first - 1, RECIPE = sizeof recipe };
+    uint8_t work[HEJSLOPI_WORK(3, 1)], out1[LENGTH], out2[LENGTH];
+    int32_t rows[HEJSLOPI_ROWS(3, 1)];
+    uint32_t sums[1];
+    uint64_t result[6] = { 9, 9, 9, 9, 9, 9 };
+
+    memset(out1, 7, sizeof out1);
+    CHECK(hejslopi_movement(recipe, RECIPE, first, LENGTH, recipe, RECIPE, second, LENGTH, 256, work, sizeof work,
+                            rows, HEJSLOPI_ROWS(3, 1), sums, 0, out1, LENGTH, out2, LENGTH, result) == HEJSLOPI_MOVEMENT_LIMIT);
+    CHECK(hejslopi_movement(recipe, RECIPE, first, LENGTH, recipe, RECIPE, other, sizeof other - 1, 19, work, sizeof work,
+                            rows, HEJSLOPI_ROWS(3, 1), sums, 0, out1, LENGTH, out2, LENGTH, result) == HEJSLOPI_SIZES_DIFFER);
+    CHECK(hejslopi_movement(recipe, RECIPE, first, LENGTH, recipe, RECIPE, second, LENGTH, 19, work, sizeof work,
+                            rows, HEJSLOPI_ROWS(3, 1), sums, 0, out1, LENGTH, out2, LENGTH - 1, result) == HEJSLOPI_ROOM);
+    for (size_t k = 0; k < sizeof out1; k++)
+        CHECK(out1[k] == 7);
+    CHECK(result[0] == 9 && result[5] == 9);
+    CHECK(hejslopi_movement(recipe, RECIPE, first, LENGTH, recipe, RECIPE, second, LENGTH, 19, work, sizeof work,
+                            rows, HEJSLOPI_ROWS(3, 1), sums, 0, out1, LENGTH, out2, LENGTH, result) == HEJSLOPI_DONE);
+    CHECK(result[0] == 1 && result[1] == 1 && result[2] == 1 && result[3] == 34301 && result[4] == 34301 && result[5] == LENGTH);
+    CHECK(memcmp(out1, filtered1, LENGTH) == 0 && memcmp(out2, filtered2, LENGTH) == 0);
+    return 0;
+}
+
 int main(void)
 {
     static const uint8_t still[] = "P5\n3 1\n255\n\x0A\x14\x28";
@@ -89,9 +118,10 @@ int main(void)
     CHECK(strcmp(hejslopi_meaning(hejslopi_read_still(still, 1, four)), "the file does not begin with P5 or P6") == 0);
     CHECK(strcmp(hejslopi_meaning(HEJSLOPI_FILE_UNREAD), "a file cannot be opened, read or written") == 0);
     CHECK(strcmp(hejslopi_meaning(HEJSLOPI_BACKGROUND_FULL), "a thousand stills are already held") == 0);
+    CHECK(strcmp(hejslopi_meaning(HEJSLOPI_MOVEMENT_LIMIT), "the movement limit is over 255") == 0);
     CHECK(strcmp(hejslopi_meaning(7), "unknown") == 0 && strcmp(hejslopi_meaning(99), "unknown") == 0);
 
-    if (background() != 0)
+    if (movement() != 0 || background() != 0)
         return 1;
     puts("ok");
     return 0;

@@ -102,6 +102,22 @@ impl Exact {
             ..self
         }
     }
+
+    /// The same fractions over a denominator that is a multiple of that of these stages too.
+    pub fn expanded(self, stages: &[Stage]) -> Exact {
+        let factors = stages.iter().flat_map(|stage| factor(&stage.work));
+        factors.fold(self, |exact, n| Exact {
+            numerators: exact.numerators.iter().map(|x| x.times(n)).collect(),
+            denominator: exact.denominator.times(n),
+        })
+    }
+}
+
+/// |x - x'| <= L, of two fractions over one denominator.
+pub fn differ_by_at_most(limit: u64, first: &Exact, second: &Exact, place: usize) -> bool {
+    assert!(first.denominator == second.denominator);
+    let difference = first.numerators[place].minus(second.numerators[place]);
+    difference.magnitude() <= first.denominator.times(limit as i64)
 }
 
 /// 65,536 |N y - x| <= T N.

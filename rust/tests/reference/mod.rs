@@ -3,6 +3,7 @@
 
 pub mod background;
 pub mod exact;
+pub mod movement;
 pub mod wide;
 
 /// The number of a refusal.

@@ -97,59 +97,63 @@ pub fn write_still(
         })
 }
 
-/// The buffers of a filtering call.
-struct Lent {
+/// The buffers of a filtering call, with N outputs.
+pub(super) struct Lent<const N: usize> {
     work: Guarded<u8>,
     rows: Guarded<i32>,
     sums: Guarded<u32>,
-    out: Guarded<u8>,
+    outs: [Guarded<u8>; N],
 }
 
-impl Lent {
-    fn new(rng: &mut Rng, lengths: Lengths) -> Lent {
+impl<const N: usize> Lent<N> {
+    pub(super) fn new(rng: &mut Rng, lengths: Lengths, outs: [usize; N]) -> Lent<N> {
         Lent {
             work: Guarded::new(lengths.work, || rng.byte()),
             rows: Guarded::new(lengths.rows, || rng.next() as i32),
             sums: Guarded::new(lengths.sums, || rng.next() as u32),
-            out: Guarded::new(lengths.out, || rng.byte()),
+            outs: outs.map(|out| Guarded::new(out, || rng.byte())),
         }
     }
 
-    fn lend(&mut self) -> (hejslopi::Lent<'_>, &mut [u8]) {
+    pub(super) fn lend(&mut self) -> (hejslopi::Lent<'_>, [&mut [u8]; N]) {
         let buffers = hejslopi::Lent {
             work: self.work.lend(),
             rows: self.rows.lend(),
             sums: self.sums.lend(),
         };
-        (buffers, self.out.lend())
+        (buffers, self.outs.each_mut().map(Guarded::lend))
     }
 
-    /// What the buffers hold after a call that wrote these bytes, or refused.
-    fn held(&self, written: Result<&[u8], u32>) -> Result<(), String> {
-        match written {
-            Ok(bytes) => {
-                if let Some(k) = (0..bytes.len()).find(|&k| bytes[k] != self.out.held()[k]) {
-                    return Err(format!(
-                        "byte {k} of the output is {}, expected {}",
-                        self.out.held()[k],
-                        bytes[k]
-                    ));
-                }
-                all(&[
-                    (self.out.kept_behind(bytes.len()), "output's tail"),
-                    (self.work.guards_kept(), "around the work bytes"),
-                    (self.rows.guards_kept(), "around the row values"),
-                    (self.sums.guards_kept(), "around the sums"),
-                ])
-            }
-            Err(_) => all(&[
-                (self.out.kept(), "output"),
+    /// What the buffers hold after a call that wrote these bytes into its outputs, or refused.
+    pub(super) fn held(&self, written: Result<[&[u8]; N], u32>) -> Result<(), String> {
+        let Ok(written) = written else {
+            return all(&[
+                (self.outs.iter().all(Guarded::kept), "output"),
                 (self.work.kept(), "work bytes"),
                 (self.rows.kept(), "row values"),
                 (self.sums.kept(), "sums"),
-            ]),
+            ]);
+        };
+        for (out, bytes) in self.outs.iter().zip(written) {
+            holds(out, bytes)?;
         }
+        all(&[
+            (self.work.guards_kept(), "around the work bytes"),
+            (self.rows.guards_kept(), "around the row values"),
+            (self.sums.guards_kept(), "around the sums"),
+        ])
     }
+}
+
+/// An output that these bytes were written to.
+fn holds(out: &Guarded<u8>, bytes: &[u8]) -> Result<(), String> {
+    if let Some(k) = (0..bytes.len()).find(|&k| bytes[k] != out.held()[k]) {
+        let (found, wanted) = (out.held()[k], bytes[k]);
+        return Err(format!(
+            "byte {k} of the output is {found}, expected {wanted}"
+        ));
+    }
+    all(&[(out.kept_behind(bytes.len()), "output's tail")])
 }
 
 pub fn filter_plane(
@@ -161,13 +165,13 @@ pub fn filter_plane(
     lengths: Lengths,
 ) -> Result<u32, String> {
     let mut result = result::<1>(rng);
-    let mut lent = Lent::new(rng, lengths);
-    let (buffers, out) = lent.lend();
+    let mut lent = Lent::new(rng, lengths, [lengths.out]);
+    let (buffers, [out]) = lent.lend();
     let number = raw::filter_plane(recipe, [w, h], plane, buffers, out, array(&mut result));
     let expected = reference::filter_plane(recipe, w, h, plane, lengths);
     let values = expected.as_ref().map(|e| vec![e.0]).map_err(|n| *n);
     told(number, &result, &values)
-        .and_then(|()| lent.held(expected.as_ref().map(|e| &e.1[..]).map_err(|n| *n)))
+        .and_then(|()| lent.held(expected.as_ref().map(|e| [&e.1[..]]).map_err(|n| *n)))
         .map(|()| number)
         .map_err(|e| {
             let (recipe, plane) = (hex(recipe), hex(plane));
@@ -182,8 +186,8 @@ pub fn filter_file(
     lengths: Lengths,
 ) -> Result<u32, String> {
     let mut result = result::<5>(rng);
-    let mut lent = Lent::new(rng, lengths);
-    let (buffers, out) = lent.lend();
+    let mut lent = Lent::new(rng, lengths, [lengths.out]);
+    let (buffers, [out]) = lent.lend();
     let number = raw::filter_file(recipe, still, buffers, out, array(&mut result));
     let expected = reference::filter_file(recipe, still, lengths);
     let values = expected
@@ -199,7 +203,7 @@ pub fn filter_file(
         })
         .map_err(|n| *n);
     told(number, &result, &values)
-        .and_then(|()| lent.held(expected.as_ref().map(|e| &e.2[..]).map_err(|n| *n)))
+        .and_then(|()| lent.held(expected.as_ref().map(|e| [&e.2[..]]).map_err(|n| *n)))
         .map(|()| number)
         .map_err(|e| {
             format!(

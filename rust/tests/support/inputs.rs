@@ -1,6 +1,6 @@
 //! Random stills and recipes, whole and damaged.
 use super::Rng;
-use crate::reference::{Stage, Work};
+use crate::reference::{Lengths, Stage, Work};
 
 /// Damages bytes in one to three places.
 pub fn damage(rng: &mut Rng, bytes: &mut Vec<u8>, within: usize) {
@@ -260,4 +260,42 @@ pub fn still(
     let header = bytes.len();
     bytes.extend_from_slice(raster);
     (bytes, header)
+}
+
+/// A need as it is, with spare, one short in each place, and with nothing lent.
+pub fn lengths(rng: &mut Rng, need: Lengths) -> Vec<Lengths> {
+    let mut all = vec![
+        need,
+        Lengths {
+            work: need.work + rng.size(0, 9),
+            rows: need.rows + rng.size(0, 9),
+            sums: need.sums + rng.size(0, 9),
+            out: need.out + rng.size(0, 9),
+        },
+        Lengths {
+            work: need.work - 1,
+            ..need
+        },
+        Lengths {
+            rows: need.rows - 1,
+            ..need
+        },
+        Lengths {
+            out: need.out - 1,
+            ..need
+        },
+        Lengths {
+            work: 0,
+            rows: 0,
+            sums: 0,
+            out: 0,
+        },
+    ];
+    if need.sums > 0 {
+        all.push(Lengths {
+            sums: need.sums - 1,
+            ..need
+        });
+    }
+    all
 }

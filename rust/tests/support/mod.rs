@@ -4,6 +4,7 @@
 pub mod background;
 pub mod calls;
 pub mod inputs;
+pub mod movement;
 
 use std::collections::BTreeMap;
 use std::fmt::Debug;
