@@ -1,4 +1,4 @@
-"""Tests of the package: the calls on the vectors, backgrounds, recipes built from descriptions and back, and places at fault. Run: python3 python/test_hejslopi.py"""
+"""Tests of the package: the calls on the vectors, backgrounds, movement, recipes built from descriptions and back, and places at fault. Run: python3 python/test_hejslopi.py"""
 import array
 import inspect
 import os
@@ -365,6 +365,119 @@ class Backgrounds(unittest.TestCase):
         here = os.path.dirname(os.path.abspath(__file__))
         done = subprocess.run([sys.executable, "-c", code], cwd=here, preexec_fn=limit, stderr=subprocess.PIPE, universal_newlines=True)
         self.assertEqual((done.returncode, done.stderr), (0, ""))
+
+
+class Movements(unittest.TestCase):
+    # Filtered by the binomial of RECIPE they are 13 23 35 and 13 43 95, with T 34301: 1.047 levels for both.
+    AFTER = grey(10, 20, 120)
+    # Ranks of one sample, T 0, and a box of one sample, T 32768.
+    EXACT, HALF = bytes.fromhex("01 05 01 00 00 00 00 01"), bytes.fromhex("01 04 01 00 00 00")
+
+    def test_by_hand(self):
+        seen = hejslopi.movement(STILL, RECIPE, self.AFTER, RECIPE, 19)
+        self.assertEqual(seen, (1, 1, 1, 34301, 34301, grey(13, 23, 35), grey(13, 43, 95)))
+        self.assertEqual((seen.moved, seen.still, seen.open, seen.tolerance1, seen.tolerance2), (1, 1, 1, 34301, 34301))
+        self.assertEqual((seen.picture1, seen.picture2), (grey(13, 23, 35), grey(13, 43, 95)))
+        self.assertEqual(hejslopi.movement(STILL, self.EXACT, self.AFTER, self.HALF, 80), (0, 2, 1, 0, 32768, STILL, self.AFTER))
+        self.assertEqual(hejslopi.movement(STILL, self.HALF, self.AFTER, self.EXACT, 79)[:5], (1, 2, 0, 32768, 0))
+
+    def test_vectors(self):
+        """Memory of its own is never too short: without those that were lent too little, all have their answers."""
+        tried = set()
+        for name in sorted(os.listdir(VECTORS)):
+            words = contents(name, "line").split()
+            if not os.path.exists(os.path.join(VECTORS, name, "still1")) or words[:2] == [b"no", b"20"]:
+                continue
+            with self.subTest(name):
+                inputs = [contents(name, file) for file in ("still1", "recipe1", "still2", "recipe2")]
+                expected = int(words[1])
+                if words[0] == b"moved":
+                    expected = *map(int, words[1:6:2]), *map(int, words[7:9]), contents(name, "out1"), contents(name, "out2")
+                self.assertEqual(self.answer(*inputs, int(contents(name, "limit"))), expected)
+                tried.add(name)
+        self.assertGreater(len(tried), 60)
+
+    @staticmethod
+    def answer(*arguments):
+        try:
+            return hejslopi.movement(*arguments)
+        except hejslopi.Refusal as refusal:
+            return refusal.number
+
+    def test_what_was_found(self):
+        """In the order of the tests, each with a cause for all later ones too."""
+        bad, cut, short = b"\x09", b"\x01\x03", b"P5\n2 1\n255\na"
+        for arguments, number, argument, where in (
+            ((short, bad, short, bad, 256), 27, "limit", "found 256"),
+            ((short, bad, b"P7", cut, 255), 10, "recipe1", "byte 1: found 9 stages, allowed: 1 to 8"),
+            ((short, RECIPE, b"P7", bad, 255), 5, "still1", "found 1, needed for 2 by 1: 2"),
+            ((STILL, RECIPE, b"P7", cut, 255), 11, "recipe2", "stage 1, border: it ends with byte 2"),
+            ((STILL, RECIPE, b"P7", RECIPE, 255), 1, "still2", "it begins with 'P7'"),
+            ((STILL, RECIPE, b"P6\n1 1\n255\nabc", RECIPE, 255), 26, "", "found 3 by 1, channels: 1, and 1 by 1, channels: 3"),
+        ):
+            with self.subTest(number), self.assertRaises(hejslopi.Refusal) as raised:
+                hejslopi.movement(*arguments)
+            wrong = raised.exception
+            self.assertEqual((wrong.number, wrong.argument, wrong.where), (number, argument, where))
+            self.assertEqual(str(wrong), "refused with %d: %s (%s)" % (number, hejslopi.MEANINGS[number], ": ".join(filter(None, (argument, where)))))
+            again = pickle.loads(pickle.dumps(wrong))
+            self.assertEqual((str(again), again.argument), (str(wrong), argument))
+
+    def test_limits(self):
+        """2^64 + 3 is not 3. A limit below 0 is none, and no refusal either."""
+        for wrong in (256, 1 << 32, (1 << 64) - 1, (1 << 64) + 3, 1 << 70):
+            self.assertEqual(self.answer(STILL, RECIPE, STILL, RECIPE, wrong), 27)
+        for wrong in (-1, -(1 << 64) + 3):
+            with self.assertRaises(ValueError) as raised:
+                hejslopi.movement(STILL, RECIPE, STILL, RECIPE, wrong)
+            self.assertEqual(str(raised.exception), "limit: found %d, allowed: 0 to 255" % wrong)
+        for wrong, kind in ((True, "bool"), (7.0, "float"), ("7", "str"), (None, "NoneType")):
+            with self.assertRaises(TypeError) as raised:
+                hejslopi.movement(STILL, RECIPE, STILL, RECIPE, wrong)
+            self.assertEqual(str(raised.exception), "limit: a whole number is needed, and this is of type %s" % kind)
+
+    def test_bytes_like(self):
+        for kind in (bytes, bytearray, memoryview, lambda data: array.array("B", data)):
+            self.assertEqual(hejslopi.movement(kind(STILL), kind(RECIPE), kind(self.AFTER), kind(RECIPE), 19).moved, 1)
+        for place, name in enumerate(("still1", "recipe1", "still2", "recipe2")):
+            inputs = [STILL, RECIPE, STILL, RECIPE]
+            inputs[place] = "P5"
+            with self.assertRaisesRegex(TypeError, "^%s: bytes are needed" % name):
+                hejslopi.movement(*inputs, 1)
+
+    def test_picture(self):
+        """Still as it is, open yellow, moved red. Of a pixel's three samples one is enough, and moved goes before open."""
+        seen = hejslopi.movement(STILL, RECIPE, self.AFTER, RECIPE, 19)
+        self.assertEqual(hejslopi.movement_picture(seen, 19), b"P6\n3 1\n255\n" + bytes([13, 13, 13, 255, 255, 0, 255, 0, 0]))
+        before, after = (b"P6\n4 1\n255\n" + bytes(samples) for samples in ([1, 2, 3] * 4, [1, 2, 3, 2, 2, 5, 4, 2, 5, 1, 4, 2]))
+        seen = hejslopi.movement(before, self.EXACT, after, self.HALF, 2)
+        # apart by 0 0 0, 1 0 2, 3 0 2 and 0 2 1, of which 2 is open: both T are half a level
+        self.assertEqual(seen[:3], (1, 8, 3))
+        self.assertEqual(hejslopi.movement_picture(seen, 2), b"P6\n4 1\n255\n" + bytes([1, 2, 3, 255, 255, 0, 255, 0, 0, 255, 255, 0]))
+        with self.assertRaisesRegex(ValueError, "^limit: found 1, with which this movement was not counted$"):
+            hejslopi.movement_picture(seen, 1)
+
+    def test_pictures(self):
+        """Random stills, beside each pixel looked at by itself."""
+        chance, seen_colours = random.Random(202605), set()
+        for _ in range(300):
+            width, height, channels = chance.randrange(1, 9), chance.randrange(1, 9), chance.choice((1, 3))
+            first = bytes(chance.choices(range(256), k=width * height * channels))
+            second = bytes(min(max(sample + chance.randrange(-4, 5), 0), 255) for sample in first)
+            limit, recipe = chance.choice((0, 1, 2, 3, 255)), chance.choice((self.EXACT, self.HALF))
+            seen = hejslopi.movement(hejslopi.write_still(width, height, channels, first), recipe, hejslopi.write_still(width, height, channels, second), self.HALF, limit)
+            colours = [self.colour(first[k:k + channels], second[k:k + channels], limit, Fraction(seen.tolerance1 + seen.tolerance2, 65536)) for k in range(0, len(first), channels)]
+            raster = b"".join(colour or first[k * channels:(k + 1) * channels] * (3 // channels) for k, colour in enumerate(colours))
+            self.assertEqual(hejslopi.movement_picture(seen, limit), hejslopi.write_still(width, height, 3, raster))
+            seen_colours.update(colours)
+        self.assertEqual(seen_colours, {b"", b"\xff\x00\x00", b"\xff\xff\x00"})
+
+    @staticmethod
+    def colour(first, second, limit, tolerances):
+        differences = [abs(a - b) for a, b in zip(first, second)]
+        if any(difference > limit + tolerances for difference in differences):
+            return b"\xff\x00\x00"
+        return b"" if all(difference + tolerances <= limit for difference in differences) else b"\xff\xff\x00"
 
 
 class Recipes(unittest.TestCase):

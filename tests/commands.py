@@ -1,4 +1,4 @@
-"""The command `hejslopi` in Python: making, explaining and describing recipes, many stills at once, and what it says when something is missing.
+"""The command `hejslopi` in Python: making, explaining and describing recipes, many stills at once, movement, and what it says when something is missing.
 
 What it shares with the other front ends, filtering one still, is tried in front_ends.py.
 """
@@ -253,6 +253,64 @@ def bar(tally, room):
     tally.equal("many on a terminal", (answer.status, steps, shown.split("\r")[-2].strip("\033[K"), "T 34301" in shown), (1, [True] * 4, "2 of 3 filtered into shown", False))
 
 
+# ---- movement
+
+
+# Three samples that the binomial of program.RECIPE makes 13 43 95, beside the 13 23 35 of program.STILL, with 1.047 levels for both T.
+AFTER = b"P5\n3 1\n255\n" + bytes([10, 20, 120])
+LINE = "moved 1 still 1 open 1 T 34301 34301\n"
+MARKED = b"P6\n3 1\n255\n" + bytes([13, 13, 13, 255, 255, 0, 255, 0, 0])
+
+
+def movement(tally):
+    """The line, the picture in a new file and over an old one, and what is said of each thing that is wrong."""
+    with folders.fresh_folder() as room:
+        for name, data in (("a.pgm", program.STILL), ("b.pgm", AFTER), ("recipe", program.RECIPE), ("old", OLD)):
+            written(os.path.join(room, name), data)
+        tally.equal("movement", run(["movement", "a.pgm", "b.pgm", "recipe", "19"], room), Answer(0, LINE, ""))
+        tally.equal("movement: files", sorted(os.listdir(room)), ["a.pgm", "b.pgm", "old", "recipe"])
+        tally.equal("movement from a still to itself", run(["movement", "a.pgm", "a.pgm", "recipe", "0019"], room).stdout, "moved 0 still 3 open 0 T 34301 34301\n")
+        for words, name in ((["--picture", "new.ppm"], "new.ppm"), (["--picture=old"], "old")):
+            tally.equal("movement into %s" % name, run(["movement"] + words + ["a.pgm", "b.pgm", "recipe", "19"], room), Answer(0, LINE, ""))
+            tally.equal("movement into %s: bytes" % name, bytes_of(os.path.join(room, name)), MARKED)
+        written(os.path.join(room, "old"), OLD)
+        movement_refused(tally, room)
+        one_line(tally, "movement: too little room", run(["movement", "a.pgm", "b.pgm", "recipe", "19", "--picture", "old"], room, program.bounded(len(MARKED) - 1)), 2,
+                 "old: cannot be written")
+        with open(os.path.join(room, "old"), "ab") as printed:
+            one_line(tally, "movement: the line into the picture", run(["movement", "a.pgm", "b.pgm", "recipe", "19", "--picture", "old"], room, stdout=printed), 2,
+                     "old is where standard output goes")
+        kept(tally, "movement: the old picture", room, "old")
+
+
+def movement_refused(tally, room):
+    """Each is said of its own file, in one line."""
+    for name, data in (("short.pgm", b"P5\n3 1\n255\nab"), ("wide.ppm", b"P6\n4 1\n255\n" + bytes(12)), ("refused", b"\x01\x09")):
+        written(os.path.join(room, name), data)
+    for where, words, status, said in (
+        ("a limit over 255", ["short.pgm", "b.pgm", "refused", "256"], 1, ["LIMIT: refused with 27: the movement limit is over 255 (found 256)"]),
+        ("a limit of twenty digits", ["a.pgm", "b.pgm", "recipe", "9" * 20], 1, ["LIMIT: refused with 27", "found " + "9" * 20]),
+        ("a limit of letters", ["a.pgm", "b.pgm", "recipe", "ten"], 2, ['found the limit "ten", allowed: a whole number from 0 to 255', "usage"]),
+        ("a limit in Arabic digits", ["a.pgm", "b.pgm", "recipe", "\u0661"], 2, ["found the limit", "allowed: a whole number from 0 to 255"]),
+        ("a limit below 0", ["a.pgm", "b.pgm", "recipe", "-1"], 2, ["found the option -1", "usage"]),
+        ("a limit below 0 as a word", ["--", "a.pgm", "b.pgm", "recipe", "-1"], 2, ['found the limit "-1", allowed: a whole number from 0 to 255']),
+        ("a refused recipe", ["short.pgm", "b.pgm", "refused", "1"], 1, ["refused: refused with 13", "stage 1, kind: found 9"]),
+        ("a refused first still", ["short.pgm", "wide.ppm", "recipe", "1"], 1, ["short.pgm: refused with 5", "found 2, needed for 3 by 1: 3"]),
+        ("a refused second still", ["a.pgm", "short.pgm", "recipe", "1"], 1, ["short.pgm: refused with 5", "found 2, needed for 3 by 1: 3"]),
+        ("two sizes", ["a.pgm", "wide.ppm", "recipe", "1"], 1, ["a.pgm and wide.ppm: refused with 26", "(found 3 by 1, channels: 1, and 4 by 1, channels: 3)"]),
+        ("a missing still", ["a.pgm", "none.pgm", "recipe", "1"], 2, ["none.pgm: cannot be read: No such file"]),
+        ("a missing recipe", ["a.pgm", "b.pgm", "none", "1"], 2, ["none: cannot be read: No such file"]),
+        ("no limit", ["a.pgm", "b.pgm", "recipe"], 2, ["words behind `movement`: 3", "usage"]),
+        ("a picture over a still", ["a.pgm", "b.pgm", "recipe", "19", "--picture", "./b.pgm"], 2, ["would be lost", "usage"]),
+        ("a picture over the recipe", ["a.pgm", "b.pgm", "recipe", "19", "--picture", "recipe"], 2, ["would be lost", "usage"]),
+        ("a picture into a folder", ["a.pgm", "b.pgm", "recipe", "19", "--picture", "."], 2, [".: cannot be written: Is a directory"]),
+        ("a picture without a name", ["a.pgm", "b.pgm", "recipe", "19", "--picture"], 2, ["--picture without its value"]),
+    ):
+        one_line(tally, "movement: %s" % where, run(["movement"] + words, room), status, *said)
+    one_line(tally, "movement: refused over an old picture", run(["movement", "a.pgm", "short.pgm", "recipe", "1", "--picture", "old"], room), 1, "short.pgm: refused with 5")
+    kept(tally, "movement: refused", room, "old")
+
+
 # ---- usage and help
 
 
@@ -262,7 +320,7 @@ def usage(tally):
                             (["explain", "a", "b"], "usage"), (["describe", "--json", "a"], "the option --json"), (["filter", "-x", "a", "b", "c"], "the option -x"),
                             (["explain", "--json=1", "a"], "the option --json=1"), (["explain", "--json", "a", "--json"], "--json twice")):
             one_line(tally, "usage: %s" % words, run(words, room), 2, said)
-        for words in (["--help"], ["-h"], ["help"], ["recipe", "--help"], ["filter", "-h"], ["explain", "--help"], ["describe", "x", "--help"], ["help", "filter"]):
+        for words in (["--help"], ["-h"], ["help"], ["recipe", "--help"], ["filter", "-h"], ["explain", "--help"], ["describe", "x", "--help"], ["movement", "--help"], ["help", "filter"]):
             answer = run(words, room)
             tally.equal("help: %s" % words, (answer.status, answer.stderr, "hejslopi" in answer.stdout, "Ends with 0" in answer.stdout), (0, "", True, True))
         if os.path.exists("/dev/full"):
@@ -358,5 +416,5 @@ def pip_installs(tally):
 
 
 def try_commands(tally):
-    for part in (recipes_made, wrong_descriptions, explained, described, many, usage, help_example, through_a_link, library_missing, library_closed, pip_installs):
+    for part in (recipes_made, wrong_descriptions, explained, described, many, movement, usage, help_example, through_a_link, library_missing, library_closed, pip_installs):
         part(tally)

@@ -225,9 +225,11 @@ def laid_as(path):
 
 
 def vector_names(kind):
-    """The folders of a kind that are the program's. A script is of a background, which the program knows nothing of: Rust's and Python's tests run it."""
+    """The folders of a kind that are the program's. A script is of a background, and two stills are of movement, which the program knows nothing of: Rust's
+    and Python's tests run them."""
     whole = os.path.join(DATA, kind)
-    return [name for name in sorted(os.listdir(whole)) if not os.path.exists(os.path.join(whole, name, "script"))]
+    other = ("script", "still1")
+    return [name for name in sorted(os.listdir(whole)) if not any(os.path.exists(os.path.join(whole, name, file)) for file in other)]
 
 
 def vector(name):

@@ -17,7 +17,7 @@ import wordings
 from tally import Tally, Words
 
 GROUPS = {
-    "program": ("the program on every vector but a background's, with out in every state", lambda tally: program.try_vectors(tally, program.to_try())),
+    "program": ("the program on every vector that is its own, with out in every state", lambda tally: program.try_vectors(tally, program.to_try())),
     "files": ("the program with its files in every state", lambda tally: program.try_files(tally, program.to_try())),
     "filter": ("./filter", filter_script.try_filter),
     "fronts": ("filtering a still from the shell, Python, Rust and C", front_ends.try_front_ends),

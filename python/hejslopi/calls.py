@@ -3,7 +3,7 @@ from __future__ import annotations
 
 import ctypes
 import operator
-from typing import Any, NamedTuple, Tuple, Union
+from typing import Any, NamedTuple, Sequence, Tuple, Union
 
 from . import faults
 from .library import call
@@ -111,9 +111,10 @@ def sums_needed(recipe: BytesLike, width: int, height: int) -> int:
     return need
 
 
-def lent(recipe: bytes, width: int, height: int) -> Tuple[Any, Any, Any]:
-    """Work bytes, row values and sums, just as many as an accepted recipe needs for such a picture."""
-    return room(2 * width * height), (ctypes.c_int32 * (width * (height + 30)))(), (ctypes.c_uint32 * sums_needed(recipe, width, height))()
+def lent(recipes: Sequence[bytes], width: int, height: int) -> Tuple[Any, Any, Any]:
+    """Work bytes, row values and sums, just as many as each of these accepted recipes needs for such a picture."""
+    sums = max((sums_needed(recipe, width, height) for recipe in recipes), default=0)
+    return room(2 * width * height), (ctypes.c_int32 * (width * (height + 30)))(), (ctypes.c_uint32 * sums)()
 
 
 def done(number: int, recipe: bytes = b"", still: bytes = b"") -> None:
@@ -163,7 +164,7 @@ def filter_plane(plane: BytesLike, width: int, height: int, recipe: BytesLike) -
     stages = read_recipe(recipe).stages
     right = stages == 1 and are_sides(width, height) and len(plane) == width * height
     out, result = room(width * height if right else 0), results(1)
-    number = call("hejslopi_filter_plane", recipe, width, height, plane, *(lent(recipe, width, height) if right else lent(b"", 0, 0)), out, result)
+    number = call("hejslopi_filter_plane", recipe, width, height, plane, *(lent([recipe], width, height) if right else lent([], 0, 0)), out, result)
     if number:
         raise Refusal(number, "found stages: %d, a plane of %s by %s, samples: %d" % (stages, *given, len(plane)))
     return FilteredPlane(bytes(out), result[0])
@@ -175,5 +176,5 @@ def filter_file(still: BytesLike, recipe: BytesLike) -> FilteredFile:
     read_recipe(recipe)
     width, height, channels, _ = read_still(still)
     out, result = room(file_length(width, height, channels)), results(5)
-    done(call("hejslopi_filter_file", recipe, still, *lent(recipe, width, height), out, result), recipe, still)
+    done(call("hejslopi_filter_file", recipe, still, *lent([recipe], width, height), out, result), recipe, still)
     return FilteredFile(ctypes.string_at(out, result[4]), result[3])

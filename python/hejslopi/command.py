@@ -1,14 +1,18 @@
-"""The command `hejslopi`: recipes made, explained and described, and stills filtered by them. `STATUSES` says how it ends."""
+"""The command `hejslopi`: recipes made, explained and described, stills filtered by them, and the movement between two. `STATUSES` says how it ends."""
 from __future__ import annotations
 
 import json
+import re
 import signal
 import sys
 from typing import Callable, Dict, List, NamedTuple, Tuple
 
 from . import calls, describing, descriptions, explaining, files, json_text
-from .filtering import about, filter_into
+from .filtering import about, about_each, filter_into
 from .many import filter_many
+from .marking import movement_picture
+from .messages import shown
+from .moving import MOST_LIMIT, movement
 from .output import DONE, FAILED, Trouble, complain, name_text, prepare, say
 from .version import VERSION
 
@@ -50,6 +54,26 @@ def filter_stills(words: List[str], options: Options) -> int:
         raise Usage("OUT is the recipe, which would be lost")
     not_printed_to(target)
     say("T %d" % filter_into(still, recipe, files.read(recipe, files.MOST_RECIPE), target))
+    return DONE
+
+
+def count_movement(words: List[str], options: Options) -> int:
+    first, second, recipe, limit = words
+    if not re.fullmatch("[0-9]{1,20}", limit):
+        raise Usage("found the limit %s, allowed: a whole number from 0 to %d" % (shown(limit), MOST_LIMIT))
+    target = options.get("--picture")
+    if target is not None:
+        if any(files.same(path, target) for path in words[:3]):
+            raise Usage("OUT is one of the files to be read, which would be lost")
+        not_printed_to(target)
+    before, after = (files.read_whole(still, files.MOST_STILL) for still in (first, second))
+    data = files.read(recipe, files.MOST_RECIPE)
+    with about_each({"still1": first, "still2": second, "recipe1": recipe, "recipe2": recipe, "limit": "LIMIT", "": "%s and %s" % (first, second)}):
+        seen = movement(before, data, after, data, int(limit))
+        picture = b"" if target is None else movement_picture(seen, int(limit))
+    if target is not None:
+        files.write(target, picture)
+    say("moved %d still %d open %d T %d %d" % seen[:5])
     return DONE
 
 
@@ -99,6 +123,12 @@ taps      offsets from -15 to 15; across also left, here, right; down also up, h
 Filters a still, a P5 or P6 file of up to 8,192 by 8,192, into OUT and prints T, in 65,536ths of a grey level.
 With --into, filters each STILL into a file of the same name in FOLDER, which is made if it is missing. A still that is refused does not stop the others.
 A file that was there before is replaced as a whole, or is left as it was.""", filter_stills),
+    "movement": Word(("movement A B RECIPE LIMIT [--picture OUT]",), 4, ("--picture=",), """\
+Filters two stills of one size by a recipe and counts the movement between them under a limit of 0 to 255 grey levels, over all samples of all channels. Prints
+`moved M still S open O T T1 T2`: how many samples have surely moved, are surely still and are open, and the T of each still, in 65,536ths of a grey level.
+The exact results of a sample that has moved differ by more than the limit, those of one that is still do not. Open ones are so near to it that rounding may have
+decided. With --picture, writes the first filtered still into OUT as a P6 file: a pixel with a sample that has moved is red, else one with an open sample is yellow.
+A file that was there before is replaced as a whole, or is left as it was.""", count_movement),
     "explain": Word(("explain RECIPE [--json]",), 1, ("--json",), """\
 Prints what a recipe does: for each stage its kind, its border, how many offsets it looks at, from which to which, the sum and the gain of its weights
 on each axis (`-` for a rank and an outline, which have none), and T after it, in 65,536ths and in grey levels; then what an outline does to T, and what T

@@ -2,7 +2,7 @@
 from __future__ import annotations
 
 import contextlib
-from typing import Iterator
+from typing import Dict, Iterator
 
 from . import calls, files
 from .output import FAILED, REFUSED, Trouble, name_text
@@ -20,6 +20,17 @@ def about(path: str, recipe: str = "") -> Iterator[None]:
         raise Trouble(REFUSED, "%s: %s" % (name_text(recipe if of_recipe else path), wrong)) from None
     except MemoryError:
         raise Trouble(FAILED, "%s: there is not enough memory" % name_text(path)) from None
+
+
+@contextlib.contextmanager
+def about_each(paths: Dict[str, str]) -> Iterator[None]:
+    """The same for a call that takes several files: each by its argument, and under "" what is said of none alone."""
+    with about(paths[""]):
+        try:
+            yield
+        except Refusal as wrong:
+            with about(paths[wrong.argument]):
+                raise Refusal(wrong.number, wrong.where) from None
 
 
 def filter_into(still: str, recipe: str, data: bytes, target: str) -> int:

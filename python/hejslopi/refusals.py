@@ -24,21 +24,26 @@ MEANINGS = {
     23: "the number to add is already there, or the number to remove is not",
     24: "the still has another size or other channels than those held",
     25: "a thousand stills are already held",
+    26: "the two stills have different sizes or channels",
+    27: "the movement limit is over 255",
 }
 
-# The numbers whose cause lies in the recipe; all others lie in the still, in the call or in a background.
+# The numbers whose cause lies in the recipe; all others lie in the still, in the call, in a background or between two stills.
 OF_RECIPES = range(10, 19)
 
 
 class Refusal(Exception):
-    """A call that was refused: `number`, what that means in `meaning`, and in `where` the place at fault as far as one can be named."""
+    """A call that was refused: `number`, what that means in `meaning`, and in `where` the place at fault as far as one can be named. `argument` says in which
+    argument that is, of a call that takes two stills and two recipes."""
 
-    def __init__(self, number: int, where: str = "") -> None:
+    def __init__(self, number: int, where: str = "", argument: str = "") -> None:
         self.number = number
         self.meaning = MEANINGS.get(number, "unknown")
         self.where = where
-        super().__init__("refused with %d: %s" % (number, self.meaning) + (" (%s)" % where if where else ""))
+        self.argument = argument
+        place = ": ".join(filter(None, (argument, where)))
+        super().__init__("refused with %d: %s" % (number, self.meaning) + (" (%s)" % place if place else ""))
 
-    def __reduce__(self) -> Tuple[Type[Refusal], Tuple[int, str]]:
+    def __reduce__(self) -> Tuple[Type[Refusal], Tuple[int, str, str]]:
         """A refusal can be sent from one process to another."""
-        return Refusal, (self.number, self.where)
+        return Refusal, (self.number, self.where, self.argument)
