@@ -1,5 +1,6 @@
 #!/usr/bin/env python3
-"""peers.py [FILE]: times OpenCV and SciPy on the work of rust/examples/benchmark.rs, where they are installed, and NumPy on the mean of a background.
+"""peers.py [FILE]: times OpenCV and SciPy on the work of rust/examples/benchmark.rs, where they are installed, OpenCV on counting movement, and NumPy on the
+mean of a background.
 
 It writes a line for each: work, size, peer, nanoseconds a sample (best of several runs, one thread, buffers warm), and `=` where
 all the peer's samples are those of document 01 on this picture, `~` where some differ, with tabs between. On standard error it says
@@ -34,6 +35,9 @@ SIZES = [(96, 72), (1024, 768)]
 
 # How many stills a background has.
 KEPT = 100
+
+# The limit of movement, in grey levels.
+LIMIT = 8
 
 # How many seconds a cell is measured, where its runs are not too long for that; the second for the many rows of ranks.
 LONG, SHORT = 0.5, 0.15
@@ -290,6 +294,33 @@ def mean_by_numpy(stills):
     return numpy.floor(stills.mean(axis=0) + 0.5).astype(numpy.uint8)
 
 
+# The two edges of movement, in whole levels: beyond the first a sample has moved, and up to the second it is still. T is document 01's, of both stills alike.
+TOLERANCES = {"binomial 3x3": 34811, "outline": 0}
+
+
+def edges(work):
+    both = 2 * TOLERANCES[work]
+    return (65536 * LIMIT + both) // 65536, (65536 * LIMIT - both) // 65536
+
+
+def movement_in_whole_numbers(work, first, second):
+    """How many samples have moved and how many are still, as document 02 has it."""
+    units, both = 65536 * numpy.abs(first.astype(numpy.int64) - second), 2 * TOLERANCES[work]
+    return numpy.array([[(units > 65536 * LIMIT + both).sum(), (units + both <= 65536 * LIMIT).sum()]])
+
+
+def movement_by_opencv(work):
+    """The samples beyond each edge are counted in the differences as bytes."""
+    moved, still = edges(work)
+
+    def count(stills):
+        apart = cv2.absdiff(*stills)
+        beyond = [cv2.countNonZero(cv2.compare(apart, edge, cv2.CMP_GT)) for edge in (moved, still)]
+        return numpy.array([[beyond[0], apart.size - beyond[1]]])
+
+    return count
+
+
 def chain(stages):
     def run(x):
         for stage in stages:
@@ -315,14 +346,14 @@ def best(run, seconds):
 PEERS = [(name, make) for name, there, make in (("opencv", cv2, by_opencv), ("scipy", ndimage, by_scipy)) if there]
 
 
-def tell(out, work, peer, run, given, wanted, seconds=LONG, samples=lambda y: y, stills=1):
-    """Times a peer's run, whose answer has some samples, and compares all of these with what is wanted."""
-    h, w = wanted.shape
+def tell(out, work, peer, run, given, wanted, seconds=LONG, samples=lambda y: y, stills=1, size=None):
+    """Times a peer's run, whose answer has some samples, and compares all of these with what is wanted. A size is that of the stills, where the answer has another."""
+    w, h = size or wanted.shape[::-1]
     apart = numpy.abs(samples(run(given)).astype(int) - wanted.astype(int))
     sign = "~" if apart.any() else "="
     nanoseconds = best(lambda: run(given), seconds) / (w * h * stills)
     print("%s\t%dx%d\t%s\t%.2f\t%s" % (work, w, h, peer, nanoseconds, sign), file=out, flush=True)
-    print("%s %dx%d %s: %d samples differ, by at most %d" % (work, w, h, peer, (apart > 0).sum(), apart.max()), file=sys.stderr)
+    print("%s %dx%d %s: %d numbers differ, by at most %d" % (work, w, h, peer, (apart > 0).sum(), apart.max()), file=sys.stderr)
 
 
 def tell_stages(out):
@@ -360,6 +391,15 @@ def tell_files(out):
         tell(out, "file, bin. 3x3", "opencv", file, still, wanted, samples=lambda data: data.reshape(-1)[-wanted.size:].reshape(wanted.shape))
 
 
+def tell_movement(out):
+    """A bed and the same two columns further, filtered as document 01 has it."""
+    for (work, stages), (w, h) in itertools.product(WORK, SIZES):
+        if work in TOLERANCES:
+            beds = bed(w, h), numpy.roll(bed(w, h).reshape(-1), -2).reshape(h, w)
+            planes = [document_01(stages[0], x) for x in beds]
+            tell(out, "movement " + work, "opencv", movement_by_opencv(work), planes, movement_in_whole_numbers(work, *planes), size=(w, h))
+
+
 def tell_background(out):
     w, h = SIZES[0]
     stills = picture(w, KEPT * h).reshape(KEPT, h, w)
@@ -375,6 +415,7 @@ def main():
     tell_ranks(out)
     if cv2:
         tell_files(out)
+        tell_movement(out)
     tell_background(out)
 
 

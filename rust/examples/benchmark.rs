@@ -1,11 +1,12 @@
 //! benchmark [PEERS]: tables in nanoseconds, a sample or a call, best of several runs, one thread, buffers warm: of all stages, of ranks by window, picture and
-//! position, of medians by their radii, of a background, of reading recipes.
+//! position, of medians by their radii, of movement, of a background, of reading recipes.
 //! Run it by `cargo run --release --example benchmark`. PEERS is a file that `python/peers.py` wrote; without it those columns are empty.
 #[path = "../tests/reference/mod.rs"]
 mod reference;
 
 use hejslopi::Held;
 use reference::background::Stills;
+use reference::movement::Run;
 use std::collections::HashMap;
 use std::hint::black_box;
 use std::time::{Duration, Instant};
@@ -354,6 +355,107 @@ fn radii() {
     }
 }
 
+// The movement between two stills.
+
+const LIMIT: u64 = 8;
+
+/// A bed, and the same seen two columns further: the second still, and what peers.py compares with.
+fn moved_bed(w: usize, h: usize) -> Vec<u8> {
+    let mut samples = bed(w, h);
+    samples.rotate_left(2);
+    samples
+}
+
+/// Two stills filtered by one recipe, in lent memory.
+struct Pair<'a> {
+    recipe: &'a [u8],
+    stills: [Vec<u8>; 2],
+    room: hejslopi::Room,
+    outs: [Vec<u8>; 2],
+}
+
+impl<'a> Pair<'a> {
+    fn new(recipe: &'a [u8], (w, h): Size) -> Pair<'a> {
+        let rasters = [bed(w, h), moved_bed(w, h)];
+        let stills = rasters.map(|raster| hejslopi::write_still(w, h, 1, &raster).unwrap());
+        Pair {
+            recipe,
+            room: hejslopi::Room::new(hejslopi::needs(recipe, w, h).unwrap()),
+            outs: stills.clone(),
+            stills,
+        }
+    }
+
+    /// Both by the file call: what the call takes but for counting.
+    fn filtered(&mut self) {
+        for (still, out) in self.stills.iter().zip(&mut self.outs) {
+            hejslopi::filter_file_into(self.recipe, still, self.room.lend(), out).unwrap();
+        }
+    }
+
+    fn counted(&mut self) -> hejslopi::Counts {
+        let (recipe, [still1, still2]) = (self.recipe, &self.stills);
+        let outs = self.outs.each_mut().map(|out| &mut out[..]);
+        let lent = self.room.lend();
+        hejslopi::movement_into(recipe, still1, recipe, still2, LIMIT, lent, outs).unwrap()
+    }
+
+    /// The same by the plain reading.
+    fn counted_plainly(&self) -> [u64; 3] {
+        let most = usize::MAX;
+        let lent = reference::Lengths {
+            work: most,
+            rows: most,
+            sums: most,
+            out: most,
+        };
+        let [first, second] = self.stills.each_ref().map(|still| Run {
+            recipe: self.recipe,
+            still,
+            lent,
+        });
+        let seen = reference::movement::movement(LIMIT, first, second);
+        seen.unwrap().counts()
+    }
+}
+
+/// The count is measured beside the cheapest stages too: it is a difference of two times, and the smaller these are, the better it is known.
+fn movement(table: &Table) {
+    println!("\nThe movement between two stills, a bed and the same two columns further, grey, limit {LIMIT}, nanoseconds for a sample of each still.");
+    println!("Both files: by the file call, one after the other. The count: what the call takes beyond that. OpenCV: the count alone, of planes that are already filtered.\n");
+    println!("| both filtered by | size     | library | both files | the count | binomial 3x3 | the count over it | plain Rust | ratio | OpenCV: the count |");
+    println!("|------------------|----------|--------:|-----------:|----------:|-------------:|------------------:|-----------:|------:|------------------:|");
+    for work in ["binomial 3x3", "outline"] {
+        for size in SIZES {
+            movement_row(table, work, size);
+        }
+    }
+}
+
+fn movement_row(table: &Table, work: &str, size: Size) {
+    let recipes: HashMap<_, _> = recipes().into_iter().collect();
+    let mut pair = Pair::new(&recipes[work], size);
+    let files = each(best(|| pair.filtered()), size);
+    let mut counts = None;
+    let library = each(best(|| counts = Some(pair.counted())), size);
+    let counts = counts.map(|seen| [seen.moved, seen.still, seen.open].map(|n| n as u64));
+    let plain = each(
+        best(|| assert!(Some(pair.counted_plainly()) == counts)),
+        size,
+    );
+    let plane = bed(size.0, size.1);
+    let binomial = each(
+        on_plane(&recipes["binomial 3x3"], size, &plane, LONG).0,
+        size,
+    );
+    let count = library - files;
+    let (size, share, ratio) = (named(size), count / binomial, plain / library);
+    println!(
+        "| {work:<16} | {size:<8} | {library:>7.2} | {files:>10.2} | {count:>9.2} | {binomial:>12.2} | {share:>17.2} | {plain:>10.2} | {ratio:>5.1} | {:>17} |",
+        table.peer(&format!("movement {work}"), &size, "opencv")
+    );
+}
+
 // A background of a hundred stills.
 
 const KEPT: usize = 100;
@@ -508,6 +610,7 @@ fn main() {
     stages(&table);
     ranks(&table);
     radii();
+    movement(&table);
     background(&table);
     reading();
 }
