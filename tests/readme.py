@@ -161,6 +161,19 @@ def from_python(tally, room):
     tally.equal("the example in Python", answer, (0, "%s %s\n" % (samples, tolerance)))
 
 
+def from_scorer(tally, room):
+    """The lines that count movement, behind those that make their recipe: what they print, and the picture of the remark."""
+    text = section("From Python")
+    lines = printed(text, "before, after = ")
+    _, counts = command_of(lines, "print(")
+    _, remark = command_of(lines, "picture = hejslopi.movement_picture")
+    samples = bytes.fromhex("".join(re.findall(r"(?:[0-9A-F]{2} ){2}[0-9A-F]{2}", remark)))
+    body = printed(text, "import hejslopi") + lines + ["print(picture)"]
+    written(os.path.join(room, "scorer.py"), "\n".join(body).encode())
+    answer = says("%s scorer.py" % shlex.quote(sys.executable), room, PYTHONPATH="python")
+    tally.equal("the scorer in Python", answer, (0, "%s\n%r\n" % (counts, b"P6" + program.STILL[2:-3] + samples)))
+
+
 def from_viewer(tally, room):
     """The lines of a viewer that keeps a background, behind those that make their recipe: what they print, the remark about the mean, and the still that is shown."""
     text = section("From Python")
@@ -176,11 +189,13 @@ def from_viewer(tally, room):
 
 
 def described(room):
-    """Lays the description in JSON, a still for it, and gives the lines of the commands below it."""
+    """Lays the description in JSON, a still for it and a later one, and gives the lines of the commands below it."""
     lines = printed(section("From Python"), "[{")
     first = next(k for k, line in enumerate(lines) if line.startswith("python3 "))
     written(os.path.join(room, "description.json"), "\n".join(lines[:first]).encode())
     written(os.path.join(room, "still.pgm"), program.STILL)
+    # Both stages leave 13 23 35 of the first, and of this one 13 43 95.
+    written(os.path.join(room, "later.pgm"), program.STILL[:-1] + bytes([120]))
     return lines[first:]
 
 
@@ -188,9 +203,9 @@ COMMAND = "python3 python/hejslopi.py"
 
 
 def python_commands(tally, room):
-    """The commands in Python that say what they print: a recipe made, a still filtered, a recipe explained."""
+    """The commands in Python that say what they print: a recipe made, a still filtered, movement counted, a recipe explained."""
     lines = described(room)
-    for beginning in ("recipe", "filter still.pgm"):
+    for beginning in ("recipe", "filter still.pgm", "movement"):
         command, said = command_of(lines, "%s %s" % (COMMAND, beginning))
         tally.equal(command, says(command, room), (0, said + "\n"))
     command, _ = command_of(lines, COMMAND + " explain")
@@ -207,9 +222,8 @@ def python_commands_on(tally, room):
     says(COMMAND + " recipe again.json again.recipe", room)
     again, before = (folders.lies_at(os.path.join(room, name)).bytes for name in ("again.recipe", "denoise.recipe"))
     tally.equal("a recipe described and made again", again, before)
-    written(os.path.join(room, "another.pgm"), program.STILL)
     command, _ = command_of(lines, COMMAND + " filter denoise.recipe")
-    tally.equal(command, says(command, room), (0, "filtered/another.pgm T 34811\nfiltered/still.pgm T 34811\n"))
+    tally.equal(command, says(command, room), (0, "filtered/later.pgm T 34811\nfiltered/still.pgm T 34811\n"))
     wrong = found(r"answered with its place: `([^`]+)`", section("From Python"), "answer to a wrong description")
     written(os.path.join(room, "wrong.json"), b'[{"kind": "binomail", "across": 1, "down": 1}]')
     tally.equal("a wrong description", says(COMMAND + " recipe wrong.json wrong", room), (1, "hejslopi: wrong.json: %s\n" % wrong))
@@ -262,7 +276,7 @@ def outline_kernels(tally, room):
 
 def try_readme(tally):
     """Each example in a folder of its own, so that none finds what another has made. One that is not there is a failure and stops no other."""
-    for example in (from_shell, sizes, recipes, outline_kernels, from_c, c_program, from_python, from_viewer, python_commands, python_commands_on, from_rust, rust_program):
+    for example in (from_shell, sizes, recipes, outline_kernels, from_c, c_program, from_python, from_scorer, from_viewer, python_commands, python_commands_on, from_rust, rust_program):
         with folders.fresh_folder() as room:
             stand_in(room)
             try:

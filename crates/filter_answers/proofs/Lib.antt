@@ -1,2 +1,3 @@
 pub mod PlaneAccepted
 pub mod FileAccepted
+pub mod InOneStep

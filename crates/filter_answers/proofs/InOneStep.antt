@@ -1,0 +1,43 @@
+-- The answer of `filter_file` told in one step, with what is lent tested where the still is read: it is the same. Assumes nothing.
+use Prim.Native.Nat.{ℕ}
+use mathlib.Core.Path.{_≡_, refl, ap, _∙_}
+use mathlib.Core.Bool.{true, false}
+use mathlib.Core.List.{List, [], _∷_}
+use Rattle.refusals.specs.Refusal.{Test, tested}
+use Rattle.model.specs.Stage.{Stage}
+use Rattle.model.specs.Tolerance.{tolerance}
+use Rattle.answers.specs.declared.Still.{Still}
+use Rattle.answers.specs.declared.Still.the-variants as Still
+use Rattle.still_reader.specs.Read.{stillOf}
+use Rattle.recipe.specs.Recipe.{recipeTests, recipeStages}
+use Rattle.answers.specs.declared.File.{File}
+use Rattle.answers.specs.declared.File.the-variants.{Refused, Picture}
+use Rattle.room.specs.declared.Lent.{Lent}
+use Rattle.room.specs.Room.{roomTests}
+use Rattle.filter_answers.specs.FileAnswer.{fileSize, stillAnswer, pictureAnswer, lentTests, fileAnswer}
+
+-- once the recipe is accepted: the still's refusals, then 20
+abbrev pub stillInOneStep : List Stage → Lent → Still → File
+stillInOneStep ts l (Still.Refused n) = Refused n
+stillInOneStep ts l (Still.Picture W H c start) = tested Refused (roomTests W H ts (fileSize W H c) l) (Picture W H c (tolerance ts) (fileSize W H c))
+
+module _ (ts : List Stage) (l : Lent) where
+  -- an answer whose lent buffers are tested
+  abbrev lending : File → File
+  lending a = tested Refused (lentTests ts l a) a
+
+  -- a refusal stays, so the buffers may be tested before or behind it
+  lending-last : (xs : List Test) (a : File) → lending (tested Refused xs a) ≡ tested Refused xs (lending a)
+  lending-last [] a = refl
+  lending-last ((true, n) ∷ xs) a = lending-last xs a
+  lending-last ((false, n) ∷ xs) a = refl
+
+  lending-still : (s : Still) → lending (stillAnswer (tolerance ts) s) ≡ stillInOneStep ts l s
+  lending-still (Still.Refused n) = refl
+  lending-still (Still.Picture W H c start) = refl
+
+pub same-answer : (recipe still : List ℕ) (l : Lent) → fileAnswer recipe still l ≡ tested Refused (recipeTests recipe) (stillInOneStep (recipeStages recipe) l (stillOf still))
+unfolding fileAnswer pictureAnswer
+same-answer recipe still l =
+    lending-last (recipeStages recipe) l (recipeTests recipe) (stillAnswer (tolerance (recipeStages recipe)) (stillOf still))
+    ∙ ap (tested Refused (recipeTests recipe)) (lending-still (recipeStages recipe) l (stillOf still))
