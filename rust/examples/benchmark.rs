@@ -7,6 +7,7 @@ mod reference;
 use hejslopi::Held;
 use reference::background::Stills;
 use reference::movement::Run;
+use reference::Lengths;
 use std::collections::HashMap;
 use std::hint::black_box;
 use std::time::{Duration, Instant};
@@ -148,6 +149,14 @@ fn on_file(recipe: &[u8], (w, h): Size, still: &[u8]) -> (Duration, Vec<u8>) {
     (time, out)
 }
 
+/// What the plain reading is lent: enough for all.
+const PLENTY: Lengths = Lengths {
+    work: usize::MAX,
+    rows: usize::MAX,
+    sums: usize::MAX,
+    out: usize::MAX,
+};
+
 // Recipes.
 
 /// How many samples a window has.
@@ -280,14 +289,10 @@ fn file_row(table: &Table, size: Size) {
     let recipe = [1, 3, 1, 0, 1, 1];
     let still = hejslopi::write_still(w, h, 1, &picture(w, h)).unwrap();
     let (library, out) = on_file(&recipe, size, &still);
-    let most = usize::MAX;
-    let lent = reference::Lengths {
-        work: most,
-        rows: most,
-        sums: most,
-        out: most,
-    };
-    let plain = best(|| assert!(reference::filter_file(&recipe, &still, lent).unwrap().2 == out));
+    let plain = best(|| {
+        let file = reference::filter_file(&recipe, &still, PLENTY).unwrap().2;
+        assert!(file == out);
+    });
     table.row(
         "file, bin. 3x3",
         &named(size),
@@ -402,17 +407,10 @@ impl<'a> Pair<'a> {
 
     /// The same by the plain reading.
     fn counted_plainly(&self) -> [u64; 3] {
-        let most = usize::MAX;
-        let lent = reference::Lengths {
-            work: most,
-            rows: most,
-            sums: most,
-            out: most,
-        };
         let [first, second] = self.stills.each_ref().map(|still| Run {
             recipe: self.recipe,
             still,
-            lent,
+            lent: PLENTY,
         });
         let seen = reference::movement::movement(LIMIT, first, second);
         seen.unwrap().counts()

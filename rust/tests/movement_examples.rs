@@ -5,7 +5,7 @@ mod support;
 use hejslopi::{Lent, Refusal};
 use reference::movement::Motion::{self, Moved, Open, Still};
 use reference::Lengths;
-use std::path::{Path, PathBuf};
+use std::path::Path;
 use support::movement::Input;
 
 const EXACT: &[u8] = &[1, 5, 1, 0, 0, 0, 0, 1]; // a rank of one sample: T is 0
@@ -85,16 +85,6 @@ fn refusals_come_in_their_order() {
 }
 
 // Vectors.
-
-fn folders() -> Vec<PathBuf> {
-    let package = Path::new(env!("CARGO_MANIFEST_DIR"));
-    let vectors = package.join("../crates/conformance/data/vectors");
-    let entries = std::fs::read_dir(vectors).unwrap();
-    let mut folders: Vec<PathBuf> = entries.map(|entry| entry.unwrap().path()).collect();
-    folders.retain(|folder| folder.join("still1").exists());
-    folders.sort();
-    folders
-}
 
 /// A line, and both files where there are any.
 type Answer = (String, Option<[Vec<u8>; 2]>);
@@ -195,7 +185,7 @@ impl Vector {
 
 #[test]
 fn vectors() {
-    let folders = folders();
+    let folders = support::vectors_with("still1");
     assert!(folders.len() >= 84, "{} vectors", folders.len());
     for folder in folders {
         let vector = Vector::read(&folder);

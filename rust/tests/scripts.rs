@@ -1,9 +1,10 @@
 //! The scripts among the vectors: lists of operations on a background, with the answer to each.
 mod reference;
+mod support;
 
 use hejslopi::{Background, Held};
 use reference::background::Memory;
-use std::path::{Path, PathBuf};
+use std::path::Path;
 
 /// How much memory a script can lend, of bytes and of labels.
 const WHOLE: usize = 4096;
@@ -120,16 +121,6 @@ impl Keeper for Plain {
 
 // Scripts.
 
-fn folders() -> Vec<PathBuf> {
-    let package = Path::new(env!("CARGO_MANIFEST_DIR"));
-    let vectors = package.join("../crates/conformance/data/vectors");
-    let entries = std::fs::read_dir(vectors).unwrap();
-    let mut folders: Vec<PathBuf> = entries.map(|entry| entry.unwrap().path()).collect();
-    folders.retain(|folder| folder.join("script").exists());
-    folders.sort();
-    folders
-}
-
 fn lines(folder: &Path, name: &str) -> Vec<String> {
     let text = std::fs::read_to_string(folder.join(name)).unwrap();
     text.lines().map(str::to_string).collect()
@@ -169,7 +160,7 @@ fn mean_words(mean: Mean) -> String {
 /// Every script, each by a new keeper, and how many answers were compared.
 fn try_scripts(keeper: impl Fn() -> Box<dyn Keeper>) -> usize {
     let mut tried = 0;
-    for folder in folders() {
+    for folder in support::vectors_with("script") {
         let mut keeper = keeper();
         let steps = lines(&folder, "script");
         let answers: Vec<String> = steps
@@ -215,7 +206,7 @@ fn scripts_by_the_plain_reading() {
 #[test]
 fn scripts_in_memory_of_its_own() {
     let mut tried = 0;
-    for folder in folders() {
+    for folder in support::vectors_with("script") {
         let mut keeper = Background::new();
         let steps = lines(&folder, "script");
         let answered = steps.iter().filter(|step| !step.starts_with("lend"));

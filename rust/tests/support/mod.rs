@@ -9,6 +9,7 @@ pub mod movement;
 use std::collections::BTreeMap;
 use std::fmt::Debug;
 use std::io::Write;
+use std::path::{Path, PathBuf};
 
 /// SplitMix64.
 pub struct Rng(u64);
@@ -144,7 +145,7 @@ pub fn compare(name: &str, inputs: u64, one: impl Fn(&mut Rng, &mut Tally) -> Re
     for k in 0..inputs {
         let seed = base.wrapping_mul(1_000_003).wrapping_add(k);
         if let Err(case) = one(&mut Rng::new(seed), &mut tally) {
-            let path = std::path::Path::new(env!("CARGO_TARGET_TMPDIR")).join(format!(
+            let path = Path::new(env!("CARGO_TARGET_TMPDIR")).join(format!(
                 "failing-{}-{seed}.txt",
                 name.replace([' ', ','], "")
             ));
@@ -168,4 +169,15 @@ pub fn hex(bytes: &[u8]) -> String {
         .map(|b| format!("{b:02X}"))
         .collect::<Vec<_>>()
         .join(" ")
+}
+
+/// The folders of vectors that have this file.
+pub fn vectors_with(file: &str) -> Vec<PathBuf> {
+    let package = Path::new(env!("CARGO_MANIFEST_DIR"));
+    let vectors = package.join("../crates/conformance/data/vectors");
+    let entries = std::fs::read_dir(vectors).unwrap();
+    let mut folders: Vec<PathBuf> = entries.map(|entry| entry.unwrap().path()).collect();
+    folders.retain(|folder| folder.join(file).exists());
+    folders.sort();
+    folders
 }
