@@ -10,6 +10,7 @@ ghost use Rattle.filter_answers.specs.FileAnswer.{Asked, lentTests};
 ghost use Rattle.movement.specs.Order.{sameSize};
 ghost use Rattle.movement_answers.specs.Run.{run};
 ghost use Rattle.movement_answers.specs.Plan.{planOf};
+ghost use Rattle.movement_answers.specs.declared.Plan.the-variants.{Runs};
 
 // Two pictures of one size: how many samples each has, how long the file of each is, and the tolerance of each.
 pub struct Pair {
@@ -77,6 +78,18 @@ fn pair_tests(
     )
 }
 
+// What there is to be filtered and counted.
+fn runs(samples: usize, len: usize, tolerance1: u64, tolerance2: u64) -> Plan
+    ensures { λ r. ⌜ r ≡ Runs (record { samples = samples; len = len; tolerance1 = tolerance1; tolerance2 = tolerance2 }) ⌝ }
+{
+    Plan::Runs(Pair {
+        samples,
+        len,
+        tolerance1,
+        tolerance2,
+    })
+}
+
 // What two runs come to under a limit: the tests in their order.
 pub fn planned(
     limit: u64,
@@ -109,15 +122,7 @@ pub fn planned(
                 ..
             } => match pair_tests(recipe1, first, lent1, recipe2, second, lent2) {
                 Verdict::Refused(n) => Plan::Refused(n),
-                Verdict::Passed => {
-                    let samples = width * height * channels;
-                    Plan::Runs(Pair {
-                        samples,
-                        len,
-                        tolerance1,
-                        tolerance2,
-                    })
-                }
+                Verdict::Passed => runs(width * height * channels, len, tolerance1, tolerance2),
             },
         },
     }

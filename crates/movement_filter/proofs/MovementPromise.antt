@@ -29,12 +29,19 @@ use Rattle.movement.specs.Motions.{motions}
 use Rattle.movement.specs.Truth.{TrueOf}
 use Rattle.movement_laws.proofs.Truth.{motion-true}
 use Rattle.movement_laws.proofs.Counting.{counts-add-up, motions-length, motion-at}
+use Rattle.room.specs.declared.Lent.{Lent}
 use Rattle.movement_answers.specs.declared.Pair.{Pair}
-use Rattle.movement_answers.specs.Run.{Run, stages, samples, filtered}
+use Rattle.movement_answers.specs.declared.Plan.{Plan}
+use Rattle.movement_answers.specs.Run.{Run, run, stages, samples, filtered}
+use Rattle.movement_answers.specs.Plan.{planOf}
 use Rattle.movement_answers.specs.MovementAnswer.{motionsBetween, movementAnswer}
 use Rattle.movement_answers.proofs.Shown.{Shown}
 use Rattle.movement_runs.specs.RunsBoth.{Leaves, rasterIn, Countable, countsIn, RunsBoth}
 use Rattle.movement_filter.specs.CountsMovement.{exactSample, Promised, CountsMovement}
+
+-- a plan of two runs, for what is lent to each by its value
+pub plan-of-runs : (L : ℕ) (a b : Run) {l l′ : Lent} {r : Plan} → l ≡ a .lent → l′ ≡ b .lent → r ≡ planOf L (run (a .recipe) (a .still) l) (run (b .recipe) (b .still) l′) → r ≡ planOf L a b
+plan-of-runs L a b e e′ f = f ∙ rw (e, e′)
 
 -- a sample of a picture lies in its raster
 sample-fits : (W H c k u v : ℕ) → k < c → u < W → v < H → (v * W + u) * c + k < W * H * c

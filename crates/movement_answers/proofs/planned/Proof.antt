@@ -42,17 +42,20 @@ enum-known-n c = search needs
 enum-told : tie.Need-enum-told
 enum-told c = search needs
 
-mul-samples : tie.Need-mul-samples
-mul-samples c =
+mul-runs : tie.Need-mul-runs
+mul-runs c =
     let a = c .before .before .before .before .before .before .before .before .before .before .before .before .before .before .before .before .args in
     let p = pictured (now (a .recipe1)) (now (a .still1)) (sym (c .before .before .before .before .before .before .before .before .before .before .picture-answer .ensures) ∙ c .before .before .before .before .before .before .before .first2 .given .1) in
     record { fits = omega (arith, shown (now (a .still1)) (p .read) .plane-small) }
 
-mul-samples-2 : tie.Need-mul-samples-2
-mul-samples-2 c =
+mul-runs-2 : tie.Need-mul-runs-2
+mul-runs-2 c =
     let a = c .before .before .before .before .before .before .before .before .before .before .before .before .before .before .before .before .args in
     let p = pictured (now (a .recipe1)) (now (a .still1)) (sym (c .before .before .before .before .before .before .before .before .before .before .picture-answer .ensures) ∙ c .before .before .before .before .before .before .before .first2 .given .1) in
     record { fits = omega (arith, shown (now (a .still1)) (p .read) .raster-small) }
+
+runs-requires : tie.Need-runs-requires
+runs-requires c κs = search needs
 
 returns-2 : tie.Need-returns-2
 returns-2 c = sym (plan-first _ _ _ (le-leb _ _ (c .before .before .before .before .before .if1 .left)) (sym (c .before .before .before .before .picture-answer .ensures) ∙ c .before .first .given .1))
@@ -68,8 +71,9 @@ returns-4 c =
 
 returns-5 : tie.Need-returns-5
 returns-5 c =
-    sym (plan-done _ _ _ (le-leb _ _ (c .before .before .before .before .before .before .before .before .before .before .before .if1 .left)) (sym (c .before .before .before .before .before .before .before .before .before .before .picture-answer .ensures) ∙ c .before .before .before .before .before .before .before .first2 .given .1) (sym (c .before .before .before .before .before .before .before .before .before .picture-answer2 .ensures) ∙ c .before .before .before .before .second2 .given .1)
-    (sym (c .before .before .pair-tests .ensures) ∙ c .enum-told .given .1))
+    c .runs .ensures
+    ∙ sym (plan-done _ _ _ (le-leb _ _ (c .before .before .before .before .before .before .before .before .before .before .before .before .if1 .left)) (sym (c .before .before .before .before .before .before .before .before .before .before .before .picture-answer .ensures) ∙ c .before .before .before .before .before .before .before .before .first2 .given .1) (sym (c .before .before .before .before .before .before .before .before .before .before .picture-answer2 .ensures) ∙ c .before .before .before .before .before .second2 .given .1)
+    (sym (c .before .before .before .pair-tests .ensures) ∙ c .before .enum-told .given .1))
 
 pub planned-spec : {M : Type 1} → statement M
 planned-spec =
@@ -85,8 +89,9 @@ planned-spec =
     pair-tests-requires
     enum-known-n
     enum-told
-    mul-samples
-    mul-samples-2
+    mul-runs
+    mul-runs-2
+    runs-requires
     returns-2
     returns-3
     returns-4

@@ -3,10 +3,16 @@ use native.Mathlib.Omega.{arith}
 use denote.Ref.{now}
 use Rattle.movement_answers.proofs.Shown.{shown, plan-refuses}
 use Rattle.movement_runs.specs.RunsBoth.{runOn}
-use Rattle.movement_filter.proofs.MovementPromise.{countable, movement-counted, movement-refused}
+use Rattle.movement_filter.proofs.MovementPromise.{plan-of-runs, countable, movement-counted, movement-refused}
 use borrow.Author.Needs.{needs}
 use Rattle.movement_filter.proofs.count_movement.Statement.{statement}
 use Rattle.movement_filter.proofs.count_movement.Tie as tie
+
+lent-to-requires : tie.Need-lent-to-requires
+lent-to-requires c κs = search needs
+
+lent-to-requires-2 : tie.Need-lent-to-requires-2
+lent-to-requires-2 c κs = search needs
 
 planned-requires : tie.Need-planned-requires
 planned-requires c κs = search needs
@@ -19,13 +25,19 @@ enum-known-pair c = search needs
 
 run-requires : tie.Need-run-requires
 run-requires c κs =
-    let a = c .before .before .before .before .before .before .before .before .before .before .before .before .before .before .before .before .before .args in
+    let a = c .before .before .before .before .before .before .before .before .before .before .before .before .before .before .before .before .before .before .before .args in
     let first = runOn (now (a .recipe1)) (now (a .still1)) (now (a .work)) (now (a .rows)) (now (a .sums)) (now (a .out1)) in
     let second = runOn (now (a .recipe2)) (now (a .still2)) (now (a .work)) (now (a .rows)) (now (a .sums)) (now (a .out2)) in
-    countable (a .limit) first second (shown (a .limit) first second (c .before .before .before .before .before .before .before .before .planned .ensures) (c .before .before .before .before .before .before .pair .given .1))
+    let plan = plan-of-runs (a .limit) first second (c .before .before .before .before .before .before .before .before .before .before .lent-to .ensures) (c .before .before .before .before .before .before .before .before .before .lent-to2 .ensures) (c .before .before .before .before .before .before .before .before .planned .ensures) in
+    countable (a .limit) first second (shown (a .limit) first second plan (c .before .before .before .before .before .before .pair .given .1))
 
 returns : tie.Need-returns
-returns c = movement-refused _ _ _ (plan-refuses _ _ _ (c .before .before .before .planned .ensures) (c .before .n .given .1))
+returns c =
+    let a = c .before .before .before .before .before .before .before .before .before .before .before .before .before .before .args in
+    let first = runOn (now (a .recipe1)) (now (a .still1)) (now (a .work)) (now (a .rows)) (now (a .sums)) (now (a .out1)) in
+    let second = runOn (now (a .recipe2)) (now (a .still2)) (now (a .work)) (now (a .rows)) (now (a .sums)) (now (a .out2)) in
+    let plan = plan-of-runs (a .limit) first second (c .before .before .before .before .before .lent-to .ensures) (c .before .before .before .before .lent-to2 .ensures) (c .before .before .before .planned .ensures) in
+    movement-refused (a .limit) first second (plan-refuses (a .limit) first second plan (c .before .n .given .1))
 
 same-length : tie.Need-same-length
 same-length c = search needs
@@ -44,15 +56,18 @@ same-length-5 c = search needs
 
 returns-2 : tie.Need-returns-2
 returns-2 c =
-    let a = c .before .before .before .before .before .before .before .before .before .before .before .before .before .before .before .before .before .before .before .before .before .before .before .before .before .before .before .args in
+    let a = c .before .before .before .before .before .before .before .before .before .before .before .before .before .before .before .before .before .before .before .before .before .before .before .before .before .before .before .before .before .args in
     let first = runOn (now (a .recipe1)) (now (a .still1)) (now (a .work)) (now (a .rows)) (now (a .sums)) (now (a .out1)) in
     let second = runOn (now (a .recipe2)) (now (a .still2)) (now (a .work)) (now (a .rows)) (now (a .sums)) (now (a .out2)) in
-    movement-counted (a .limit) first second (shown (a .limit) first second (c .before .before .before .before .before .before .before .before .before .before .before .before .before .before .before .before .before .before .planned .ensures) (c .before .before .before .before .before .before .before .before .before .before .before .before .before .before .before .before .pair .given .1)) (λ i. omega (arith, c .before .before .before .before .before .before .before .before .before .before .before .before .before .before .before .before .before .before .before .before .before .before .before .before .before .before .shared-slice-known .given i .fits)) (λ i. omega (arith, c .before .before .before .before .before .before .before .before .before .before .before .before .before .before .before .before .before .before .before .before .before .before .before .before .shared-slice-known3 .given i .fits)) (c .before .before .before .before .before .before .before .before .before .run .ensures)
+    let plan = plan-of-runs (a .limit) first second (c .before .before .before .before .before .before .before .before .before .before .before .before .before .before .before .before .before .before .before .before .lent-to .ensures) (c .before .before .before .before .before .before .before .before .before .before .before .before .before .before .before .before .before .before .before .lent-to2 .ensures) (c .before .before .before .before .before .before .before .before .before .before .before .before .before .before .before .before .before .before .planned .ensures) in
+    movement-counted (a .limit) first second (shown (a .limit) first second plan (c .before .before .before .before .before .before .before .before .before .before .before .before .before .before .before .before .pair .given .1)) (λ i. omega (arith, c .before .before .before .before .before .before .before .before .before .before .before .before .before .before .before .before .before .before .before .before .before .before .before .before .before .before .before .before .shared-slice-known .given i .fits)) (λ i. omega (arith, c .before .before .before .before .before .before .before .before .before .before .before .before .before .before .before .before .before .before .before .before .before .before .before .before .before .before .shared-slice-known3 .given i .fits)) (c .before .before .before .before .before .before .before .before .before .run .ensures)
 
 pub count-movement-spec : {M : Type 1} → statement M
 count-movement-spec =
     tie.close
     (tie.spec
+    lent-to-requires
+    lent-to-requires-2
     planned-requires
     enum-known-n
     enum-known-pair
