@@ -156,7 +156,7 @@ def help_of_all() -> str:
 
 
 def parted(word: str, given: List[str]) -> Tuple[List[str], Options]:
-    """Words and options. An option that ends in = takes a value; behind -- all are words."""
+    """Words and options. An option that ends in = takes a value; behind -- all are words. A number below 0 is a word, and so is - alone."""
     words: List[str] = []
     options: Options = {}
     rest = list(given)
@@ -167,7 +167,7 @@ def parted(word: str, given: List[str]) -> Tuple[List[str], Options]:
             return words + rest, options
         if item in ("-h", "--help"):
             options["--help"] = ""
-        elif not item.startswith("-") or item == "-":
+        elif not item.startswith("-") or re.fullmatch("-[0-9]*", item):
             words.append(item)
         elif name in options:
             raise Usage("found the option %s twice" % name)
