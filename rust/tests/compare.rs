@@ -178,6 +178,20 @@ fn large_planes_are_filtered_alike() {
     planes("filter_plane, large", 250, 200_000_000);
 }
 
+/// Few different weights on an axis: which of equal remainders gets a unit decides samples.
+#[test]
+fn symmetric_weights_are_filtered_alike() {
+    compare("filter_plane, symmetric", 5_000, |rng, tally| {
+        let recipe = inputs::symmetric_recipe(rng, 1);
+        let stages = reference::read_recipe(&recipe).unwrap_or_default();
+        let (w, h) = inputs::size(rng, inputs::cost(&stages), 1_000_000);
+        let plane = inputs::samples(rng, w * h);
+        let need = reference::needs(&stages, w, h, w * h);
+        tally.add(calls::filter_plane(rng, &recipe, w, h, &plane, need)?);
+        Ok(())
+    });
+}
+
 fn files(name: &str, count: u64, nanoseconds: usize) {
     compare(name, count, |rng, tally| {
         let stages = if rng.one_in(3) {

@@ -145,7 +145,7 @@ fn the_reference_gives_the_papers_weights() {
         reference::Work::Weighted { across, .. } => reference::weights(across),
         _ => unreachable!(),
     };
-    assert_eq!(weights([1, 1, 1], 3), [21846, 21845, 21845]);
+    assert_eq!(weights([1, 1, 1], 3), [21845, 21846, 21845]);
     assert_eq!(weights([-1, -1, 5], 3), [-21845, -21845, 109226]);
 }
 

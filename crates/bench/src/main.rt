@@ -1,4 +1,4 @@
-// Document 01's two examples of weights into 65,536ths, run: whether each weight that comes out is the paper's.
+// The two examples of weights into 65,536ths, as request 2026-06 has them, run: whether each weight that comes out is the paper's.
 use libc::STDOUT_FILENO;
 use refusals::Verdict;
 
@@ -30,11 +30,11 @@ fn show(part: &[u8], a: i32, b: i32, c: i32) {
 }
 
 fn main() {
-    say(b"1 1 1 over 3: 21846 21845 21845");
+    say(b"1 1 1 over 3: 21845 21846 21845");
     show(
         b"\x03\x01\x00\x03\x00\x01\xff\x00\x01\x00\x00\x01\x00\x01\x00\x01\x00\x01",
-        21846,
         21845,
+        21846,
         21845,
     );
     say(b"-1 -1 5 over 3: -21845 -21845 109226");

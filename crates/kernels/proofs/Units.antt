@@ -19,7 +19,7 @@ use Rattle.lists.specs.Count.{count}
 use Rattle.lists.proofs.Tabulate.{length-tabulate, tabulate-ext, mem-tabulate, entry-known}
 use Rattle.lists.proofs.Count.{count-ext}
 use Rattle.model.specs.Kernel.{tap, kernel, magnitude}
-use Rattle.model.specs.Apportion.{quotient, remainder, comesBefore, getsUnit, share, apportion}
+use Rattle.model.specs.Apportion.{quotient, remainder, distance, nearer, comesBefore, servedBefore, getsUnit, share, apportion}
 use Rattle.model.specs.Tolerance.{scaledGain}
 use Rattle.model_laws.proofs.Apportion.{lacking-by-remainders}
 use Rattle.stage_values.specs.Place.{offsetOf}
@@ -27,6 +27,7 @@ use Rattle.numerators.specs.Numerator.{numeratorOf, remainderOf}
 use Rattle.kernels.specs.Kernel.{tapOf, kernelOf, Limits}
 use Rattle.stage_values.specs.Ready.{Ready}
 use Rattle.unit_order.specs.Order.{before}
+use Rattle.unit_order.specs.Order as Held
 use Rattle.lists.proofs.Sums.{map-tabulate}
 
 -- ---- each numerator is within the gain
@@ -63,11 +64,15 @@ offset-lt o p = go (ltZ (pos o -ℤ pos 15) (pos p -ℤ pos 15)) (ltb o p) refl 
     go true false d e = absurd (rw e at (lt→ltb o p (there (rw d tt))))
     go false true d e = absurd (rw d at (back (ltb→lt o p (rw e tt))))
 
+distance-is : (o : ℕ) → natAbs (offsetOf o) ≡ Held.distance o
+unfolding offsetOf Held.distance
+distance-is o = abs-diff o 15
+
 comes-is : (divisor : ℕ) (offsets values : List ℕ) (j i : ℕ)
     → comesBefore divisor (tapOf offsets values j) (tapOf offsets values i)
     ≡ before (remainderOf (getD values j 0) divisor) (getD offsets j 0) (remainderOf (getD values i 0) divisor) (getD offsets i 0)
-unfolding comesBefore tapOf tap remainder before remainderOf
-comes-is divisor offsets values j i = rw (offset-lt (getD offsets j 0) (getD offsets i 0))
+unfolding comesBefore nearer distance tapOf tap remainder before Held.nearer remainderOf
+comes-is divisor offsets values j i = rw (distance-is (getD offsets j 0), distance-is (getD offsets i 0), offset-lt (getD offsets j 0) (getD offsets i 0))
 
 count-map : {A : Type 0} (p : A → Bool) (f : ℕ → A) (xs : List ℕ) → count p (map f xs) ≡ count (λ j. p (f j)) xs
 unfolding count
@@ -103,7 +108,7 @@ module _ (divisor : ℕ) (offsets values rest : List ℕ) (n : ℕ) (e : take n 
 
   pub unit-is : (i : ℕ) → i < n → 0 < divisor → getsUnit (kernelOf divisor offsets values n) (tapOf offsets values i)
       ≡ ltb (count (λ j. before (getD rest j 0) (getD offsets j 0) (getD rest i 0) (getD offsets i 0)) (tabulate (λ j. j) n)) ((2 * sum (tabulate (λ k. getD rest k 0) n) + divisor) / (2 * divisor))
-  unfolding getsUnit kernelOf kernel
+  unfolding getsUnit servedBefore kernelOf kernel
   unit-is i h hD = rw (lacking-by-remainders (kernelOf divisor offsets values n) hD, ahead-is i h, sum-is)
 
 -- the weight that the code stores

@@ -5,5 +5,7 @@ pub mod Pairs
 pub mod Count
 pub mod Order
 pub mod Sums
+pub mod Members
+pub mod Folds
 pub mod CountParts
 pub mod Stored

@@ -3,7 +3,7 @@ use Prim.Native.Nat.{ℕ, _*_}
 use mathlib.Core.Bool.{Bool, cond, _&&_, _||_}
 use mathlib.Core.List.{List, map}
 use lib.Dec.{ltb, eqb}
-use lib.IntN.{ℤ, pos, _+ℤ_, _-ℤ_, _*ℤ_}
+use lib.IntN.{ℤ, pos, natAbs, _+ℤ_, _-ℤ_, _*ℤ_}
 use lib.Signed.{ltZ}
 use Rattle.integers.specs.Divide.{floorDiv, modulo}
 use Rattle.integers.specs.Sum.{sumℤ}
@@ -26,13 +26,25 @@ wantedTotal K = floorDiv (pos 131072 *ℤ total (K .taps) +ℤ pos (K .divisor))
 unfoldable pub lacking : Kernel → ℤ
 lacking K = wantedTotal K -ℤ sumℤ (map (quotient (K .divisor)) (K .taps))
 
--- whether s is served before t: a larger remainder wins, and between equal ones the smaller offset
+-- how far a tap lies from the middle of its axis, offset 0
+unfoldable pub distance : Tap → ℕ
+distance t = natAbs (t .offset)
+
+-- whether s lies nearer the middle than t, or just as near and at the lower offset
+unfoldable pub nearer : Tap → Tap → Bool
+nearer s t = ltb (distance s) (distance t) || eqb (distance s) (distance t) && ltZ (s .offset) (t .offset)
+
+-- whether s is served before t (request 2026-06): a larger remainder wins, and between equal ones the tap nearer the middle
 unfoldable pub comesBefore : ℕ → Tap → Tap → Bool
-comesBefore D s t = ltb (remainder D t) (remainder D s) || eqb (remainder D s) (remainder D t) && ltZ (s .offset) (t .offset)
+comesBefore D s t = ltb (remainder D t) (remainder D s) || eqb (remainder D t) (remainder D s) && nearer s t
+
+-- how many taps are served before t
+unfoldable pub servedBefore : Kernel → Tap → ℕ
+servedBefore K t = count (λ s. comesBefore (K .divisor) s t) (K .taps)
 
 -- whether t gets a spare unit, never more than one: fewer taps are served before it than there are units
 unfoldable pub getsUnit : Kernel → Tap → Bool
-getsUnit K t = ltZ (pos (count (λ s. comesBefore (K .divisor) s t) (K .taps))) (lacking K)
+getsUnit K t = ltZ (pos (servedBefore K t)) (lacking K)
 
 -- a tap with its weight in 65,536ths
 unfoldable pub share : Kernel → Tap → Tap

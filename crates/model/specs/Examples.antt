@@ -1,8 +1,9 @@
 -- Worked examples. `bench` has the starred cases of 'Bench stills' and, not starred there, the T of its first line; `details` pins what those and the
--- tolerance leave open, and `outlines` the kind of request 2026-01.
+-- tolerance leave open, `outlines` the kind of request 2026-01, and `symmetry` the order of service of request 2026-06.
 -- A row names the case, what the definitions give for its input, and what they should give. The theorem at the end goes over all rows.
 use Prim.Native.Nat.{ℕ, _^_}
 use Prim.Native.String.{String}
+use mathlib.Core.Bool.{Bool, true, false}
 use mathlib.Core.List.{List, [], _∷_, _++_, map}
 use mathlib.Core.Path.{_≡_, refl}
 use lib.ListN.{length}
@@ -13,9 +14,11 @@ use Rattle.lists.specs.Count.{count}
 use Rattle.lists.specs.Tabulate.{tabulate, raster}
 use Rattle.model.specs.Border.{Border, constant, nearest, mirror, wrap, inside, closest, folded, supply}
 use Rattle.model.specs.Plane.{planeOf, around, pick}
+use Rattle.model.specs.Flip.{flipped, flippedSamples}
 use Rattle.model.specs.Kernel.{Kernel, tap, kernel, weightedSum, total, magnitude}
 use Rattle.model.specs.Binomial.{binomial, pairSums, pascalRow, choose}
-use Rattle.model.specs.Apportion.{apportion, quotient, remainder, wantedTotal, lacking, comesBefore, getsUnit, share}
+use Rattle.model.specs.Apportion.{apportion, quotient, remainder, wantedTotal, lacking, distance, nearer, comesBefore, servedBefore, getsUnit, share}
+use Rattle.model.specs.Symmetry.{symmetric, same, opposite, unitsLeft, split, unsplit}
 use Rattle.model.specs.Weighted.{rowValue, weightedResult}
 use Rattle.model.specs.Window.{area, window}
 use Rattle.model.specs.Box.{boxResult}
@@ -29,6 +32,7 @@ pub data Answer : Type 0 where
   samples : List ℕ → Answer
   weights : List ℤ → Answer
   tolerances : List ℕ → Answer
+  verdicts : List Bool → Answer
   fractions : ℕ → List ℕ → Answer
 
 pub record Example : Type 0 where
@@ -83,7 +87,7 @@ bench =
     ∷ row "rank r 1, nearest: p 2" (filtered 3 1 nearest 0 (rank 1 0 2) (10 ∷ 20 ∷ 40 ∷ [])) (samples (10 ∷ 20 ∷ 40 ∷ []))
     ∷ row "ratios -1 0 1 over 2, nearest" (filtered 3 1 nearest 0 (weighted (three 2 (minus 1) (pos 0) (pos 1)) one) (10 ∷ 20 ∷ 40 ∷ [])) (samples (5 ∷ 15 ∷ 10 ∷ []))
     ∷ row "ratios -1 0 1 over 2, on 40 20 10" (filtered 3 1 nearest 0 (weighted (three 2 (minus 1) (pos 0) (pos 1)) one) (40 ∷ 20 ∷ 10 ∷ [])) (samples (0 ∷ 0 ∷ 0 ∷ []))
-    ∷ row "thirds 1 1 1 over 3" (apportioned (three 3 (pos 1) (pos 1) (pos 1))) (weights (pos 21846 ∷ pos 21845 ∷ pos 21845 ∷ []))
+    ∷ row "thirds 1 1 1 over 3" (apportioned (three 3 (pos 1) (pos 1) (pos 1))) (weights (pos 21845 ∷ pos 21846 ∷ pos 21845 ∷ []))
     ∷ row "-1 -1 5 over 3" (apportioned (three 3 (minus 1) (minus 1) (pos 5))) (weights (minus 21845 ∷ minus 21845 ∷ pos 109226 ∷ []))
     ∷ row "binomial 1,1 then box"
     (tolerances (toleranceOf (weighted (binomial 1) (binomial 1) ∷ []) ∷ toleranceOf (weighted (binomial 1) (binomial 1) ∷ box 1 1 ∷ []) ∷ []))
@@ -196,12 +200,56 @@ outlines =
     (fractions 3 (570 ∷ 765 ∷ 570 ∷ []))
     ∷ []
 
+-- two taps, both 1 over D, at offsets -k and k
+unfoldable pub pair : ℕ → ℕ → Kernel
+pair D k = kernel D (tap (minus k) (pos 1) ∷ tap (pos k) (pos 1) ∷ [])
+
+-- four taps, all a over D, at offsets -2 -1 1 2
+unfoldable pub four : ℕ → ℕ → Kernel
+four D a = kernel D (tap (minus 2) (pos a) ∷ tap (minus 1) (pos a) ∷ tap (pos 1) (pos a) ∷ tap (pos 2) (pos a) ∷ [])
+
+-- thirds at three offsets
+unfoldable pub thirds : ℤ → ℤ → ℤ → Kernel
+thirds i j k = kernel 3 (tap i (pos 1) ∷ tap j (pos 1) ∷ tap k (pos 1) ∷ [])
+
+-- the binomials r 0 to 15, each put to a test
+unfoldable pub binomials : (Kernel → Bool) → Answer
+binomials p = verdicts (tabulate (λ r. p (binomial r)) 16)
+
+-- what should come of that: r 9, 10, 12 and 13 fail
+unfoldable pub allButFour : Answer
+allButFour = verdicts (true ∷ true ∷ true ∷ true ∷ true ∷ true ∷ true ∷ true ∷ true ∷ false ∷ false ∷ true ∷ false ∷ false ∷ true ∷ true ∷ [])
+
+-- Request 2026-06, worked by hand. 1/3 is 21,845 1/3 units and 2/3 43,690 2/3; 3/5 is 39,321 3/5:
+-- two thirds lack 2/3, one unit; three thirds one; 2 2 2 over 3 two; 2 2 2 2 over 3 lack 2 2/3, three units; 3 3 3 3 over 5 lack 2 2/5, two;
+-- 1 1 over 384 are 170 2/3 units each and lack one. 171·189 is 32,319 and 170·189 is 32,130, 31.6 and 31.4 64ths: 32 of them are rounded up to a level, 31 down.
+unfoldable pub symmetry : List Example
+symmetry =
+    row "1 1 over 3 at -2 2" (apportioned (pair 3 2)) (weights (pos 21846 ∷ pos 21845 ∷ []))
+    ∷ row "thirds at 1 2 3" (apportioned (thirds (pos 1) (pos 2) (pos 3))) (weights (pos 21846 ∷ pos 21845 ∷ pos 21845 ∷ []))
+    ∷ row "thirds at -3 -2 -1" (apportioned (thirds (minus 3) (minus 2) (minus 1))) (weights (pos 21845 ∷ pos 21845 ∷ pos 21846 ∷ []))
+    ∷ row "2 2 2 over 3 at -1 0 1" (apportioned (three 3 (pos 2) (pos 2) (pos 2))) (weights (pos 43691 ∷ pos 43691 ∷ pos 43690 ∷ []))
+    ∷ row "2 2 2 2 over 3 at -2 -1 1 2" (apportioned (four 3 2)) (weights (pos 43691 ∷ pos 43691 ∷ pos 43691 ∷ pos 43690 ∷ []))
+    ∷ row "3 3 3 3 over 5 at -2 -1 1 2" (apportioned (four 5 3)) (weights (pos 39321 ∷ pos 39322 ∷ pos 39322 ∷ pos 39321 ∷ []))
+    ∷ row "dealt without splitting a pair: thirds; 2 2 2 over 3; the pair; the four over 3; those over 5"
+    (verdicts (map unsplit (three 3 (pos 1) (pos 1) (pos 1) ∷ three 3 (pos 2) (pos 2) (pos 2) ∷ pair 3 2 ∷ four 3 2 ∷ four 5 3 ∷ [])))
+    (verdicts (true ∷ false ∷ false ∷ false ∷ true ∷ []))
+    ∷ row "symmetric taps: a pair; 1 2 1; one at 0; 1 2 3; -1 and 1 at -1 1; thirds at 1 2 3"
+    (verdicts (map (λ K. symmetric (K .taps)) (pair 3 2 ∷ three 4 (pos 1) (pos 2) (pos 1) ∷ one ∷ three 6 (pos 1) (pos 2) (pos 3) ∷ three 2 (minus 1) (pos 0) (pos 1) ∷ thirds (pos 1) (pos 2) (pos 3) ∷ [])))
+    (verdicts (true ∷ true ∷ true ∷ false ∷ false ∷ false ∷ []))
+    ∷ row "binomials with symmetric weights" (binomials (λ K. symmetric (apportion K))) allButFour
+    ∷ row "binomials that split no pair" (binomials unsplit) allButFour
+    ∷ row "1 1 over 384 at -1 1: a level of difference" (filtered 3 1 constant 0 (weighted (pair 384 1) one) (189 ∷ 0 ∷ 0 ∷ [])) (samples (0 ∷ 1 ∷ 0 ∷ []))
+    ∷ row "and flipped" (filtered 3 1 constant 0 (weighted (pair 384 1) one) (flippedSamples 3 1 (189 ∷ 0 ∷ 0 ∷ []))) (samples (0 ∷ 0 ∷ 0 ∷ []))
+    ∷ row "1 2 3 / 4 5 6, flipped" (samples (flippedSamples 3 2 (1 ∷ 2 ∷ 3 ∷ 4 ∷ 5 ∷ 6 ∷ []))) (samples (3 ∷ 2 ∷ 1 ∷ 6 ∷ 5 ∷ 4 ∷ []))
+    ∷ []
+
 -- every definition that an example runs through, opened by one name
 opened : Unit {0}
-unfolding modulo ceilDiv clamp sum sumℤ tabulate raster count inside closest folded supply planeOf pick around tap kernel weightedSum total magnitude pairSums pascalRow choose binomial quotient remainder wantedTotal lacking comesBefore getsUnit share apportion rowValue weightedResult area window boxResult insert sort smallest rankResult outlineKernels response largest edgeStrength outlineResult stage result stagePlane written scaledGain weightedGrowth growth afterStage toleranceFrom tolerance denominator numerator exactPlane exactFrom denominatorFrom exact exactDenominator row filtered exactly apportioned toleranceOf supplied minus three one two alone quadruple back outlined smoothed
+unfolding modulo ceilDiv clamp sum sumℤ tabulate raster count inside closest folded supply planeOf pick around tap kernel weightedSum total magnitude pairSums pascalRow choose binomial quotient remainder wantedTotal lacking distance nearer comesBefore servedBefore getsUnit share apportion same opposite symmetric unitsLeft split unsplit flipped flippedSamples rowValue weightedResult area window boxResult insert sort smallest rankResult outlineKernels response largest edgeStrength outlineResult stage result stagePlane written scaledGain weightedGrowth growth afterStage toleranceFrom tolerance denominator numerator exactPlane exactFrom denominatorFrom exact exactDenominator row filtered exactly apportioned toleranceOf supplied minus three one two alone quadruple back outlined smoothed pair four thirds binomials allButFour
 opened = tt
 
 -- THE WORKED EXAMPLES HOLD, by computation
-pub examples-hold : map (λ e. e .found) (bench ++ details ++ outlines) ≡ map (λ e. e .expected) (bench ++ details ++ outlines)
-unfolding opened bench details outlines
+pub examples-hold : map (λ e. e .found) (bench ++ details ++ outlines ++ symmetry) ≡ map (λ e. e .expected) (bench ++ details ++ outlines ++ symmetry)
+unfolding opened bench details outlines symmetry
 examples-hold = refl

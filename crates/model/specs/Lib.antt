@@ -14,6 +14,7 @@ pub mod Plane
 pub mod Kernel
 pub mod Binomial
 pub mod Apportion
+pub mod Symmetry
 pub mod Weighted
 pub mod Window
 pub mod Box
@@ -24,4 +25,5 @@ pub mod Tolerance
 pub mod Exact
 pub mod Within
 pub mod Sound
+pub mod Flip
 pub mod Examples

@@ -10,7 +10,7 @@ use mathlib.Core.List.{List, [], _∷_, map}
 use lib.Dec.{T, ltb, eqb, ltb→lt, lt→ltb, eqb→eq, eqb-refl, not-T}
 use lib.Arith.{le→nltb}
 use lib.IntN.{ℤ, pos, negsuc, _+ℤ_, _*ℤ_}
-use lib.Signed.{ltZ, _<ℤ_, ltZ-yes, <ℤ-irrefl}
+use lib.Signed.{_<ℤ_, ltZ-yes, <ℤ-irrefl}
 use Rattle.integers.specs.Sum.{sum, sumℤ}
 use Rattle.integers.proofs.Parts.{Parts, posPart, negPart, add-parts, sub-parts, mul-parts, add-add, add-sub}
 use Rattle.integers.proofs.Order.{<ℤ-trans}
@@ -19,7 +19,7 @@ use Rattle.lists.specs.Count.{count}
 use Rattle.lists.proofs.Count.{Bit, one, none, bit-lt, count-mono, count-ext, count-length}
 use Rattle.lists.proofs.Order.{Strict, Settled, served}
 use Rattle.model.specs.Kernel.{Tap, tap, Kernel, total, Rising}
-use Rattle.model.specs.Apportion.{quotient, remainder, wantedTotal, lacking, comesBefore, getsUnit, share, apportion}
+use Rattle.model.specs.Apportion.{quotient, remainder, wantedTotal, lacking, distance, nearer, comesBefore, servedBefore, getsUnit, share, apportion}
 
 -- each weight is its floor or one more
 pub share-floor : (K : Kernel) (t : Tap)
@@ -45,51 +45,81 @@ or-else true b c h = inl tt
 or-else false true c h = inr (tt, h)
 or-else false false c h = absurd h
 
+-- a number decides, and where the two are equal P does
+abbrev pub Then : ℕ → ℕ → Type 0 → Type 0
+Then a b P = (a < b) ⊎ ((a ≡ b) × P)
+
+then-of : (a b : ℕ) (e : Bool) → T (ltb a b || eqb a b && e) → Then a b (T e)
+then-of a b e h = ⊎-elim (λ l. inl (ltb→lt a b l)) (λ k. inr (eqb→eq a b (k .0), k .1)) (or-else (ltb a b) (eqb a b) e h)
+
+of-then : (a b : ℕ) (e : Bool) → Then a b (T e) → T (ltb a b || eqb a b && e)
+of-then a b e h = either (ltb a b) (eqb a b) e (⊎-elim (λ l. inl (lt→ltb a b l)) (λ k. inr (rw (k .0) (eqb-refl b), k .1)) h)
+
+then-by : {a b : ℕ} {P Q : Type 0} → (P → Q) → Then a b P → Then a b Q
+then-by f h = ⊎-elim inl (λ k. inr (k .0, f (k .1))) h
+
+then-trans : {a b c : ℕ} {P Q R : Type 0} → (P → Q → R) → Then a b P → Then b c Q → Then a c R
+then-trans f (inl h) (inl k) = inl (omega arith)
+then-trans f (inl h) (inr k) = inl (omega (arith, k .0))
+then-trans f (inr h) (inl k) = inl (omega (arith, h .0))
+then-trans f (inr h) (inr k) = inr (h .0 ∙ k .0, f (h .1) (k .1))
+
+then-irreflexive : {a : ℕ} {P : Type 0} → (P → ⊥) → Then a a P → ⊥
+then-irreflexive n (inl h) = omega arith
+then-irreflexive n (inr h) = n (h .1)
+
+then-settled : (a b : ℕ) {P Q : Type 0} → P ⊎ Q → Then a b P ⊎ Then b a Q
+then-settled a b {P} {Q} h = go (decLe a b)
+  where
+    go : Dec (a ≤ b) → Then a b P ⊎ Then b a Q
+    go (yes l) = ⊎-elim (λ e. ⊎-elim (λ p. inl (inr (e, p))) (λ q. inr (inr (sym e, q))) h) (λ k. inl (inl k)) (eq-or-lt-of-le l)
+    go (no l) = inr (inl (omega arith))
+
+-- what the two tests say
+abbrev pub Nearer : Tap → Tap → Type 0
+Nearer s t = Then (distance s) (distance t) (s .offset <ℤ t .offset)
+
+abbrev pub Before : ℕ → Tap → Tap → Type 0
+Before D s t = Then (remainder D t) (remainder D s) (Nearer s t)
+
+pub nearer-of : (s t : Tap) → T (nearer s t) → Nearer s t
+unfolding nearer
+nearer-of s t h = then-by ltZ-yes (then-of (distance s) (distance t) _ h)
+
+pub of-nearer : (s t : Tap) → Nearer s t → T (nearer s t)
+unfolding nearer
+of-nearer s t h = of-then (distance s) (distance t) _ (then-by (λ l. l .lt) h)
+
+nearer-trans : (x y z : Tap) → Nearer x y → Nearer y z → Nearer x z
+nearer-trans x y z h k = then-trans (λ l m. <ℤ-trans l m) h k
+
 module _ (D : ℕ) where
-  -- what the test says
-  abbrev Before : Tap → Tap → Type 0
-  Before s t = (remainder D t < remainder D s) ⊎ ((remainder D s ≡ remainder D t) × (s .offset <ℤ t .offset))
-
-  before-of : (s t : Tap) → T (comesBefore D s t) → Before s t
+  pub before-of : (s t : Tap) → T (comesBefore D s t) → Before D s t
   unfolding comesBefore
-  before-of s t h =
-      ⊎-elim
-      (λ a. inl (ltb→lt (remainder D t) (remainder D s) a))
-      (λ b. inr (eqb→eq (remainder D s) (remainder D t) (b .0), ltZ-yes (b .1)))
-      (or-else (ltb (remainder D t) (remainder D s)) (eqb (remainder D s) (remainder D t)) (ltZ (s .offset) (t .offset)) h)
+  before-of s t h = then-by (nearer-of s t) (then-of (remainder D t) (remainder D s) _ h)
 
-  of-before : (s t : Tap) → Before s t → T (comesBefore D s t)
+  pub of-before : (s t : Tap) → Before D s t → T (comesBefore D s t)
   unfolding comesBefore
-  of-before s t h =
-      either (ltb (remainder D t) (remainder D s)) (eqb (remainder D s) (remainder D t)) (ltZ (s .offset) (t .offset))
-      (⊎-elim (λ a. inl (lt→ltb (remainder D t) (remainder D s) a)) (λ b. inr (rw (b .0) (eqb-refl (remainder D t)), b .1 .lt)) h)
+  of-before s t h = of-then (remainder D t) (remainder D s) _ (then-by (of-nearer s t) h)
 
-  transitive : (x y z : Tap) → Before x y → Before y z → Before x z
-  transitive x y z (inl h) (inl k) = inl (omega arith)
-  transitive x y z (inl h) (inr k) = inl (omega (arith, k .0))
-  transitive x y z (inr h) (inl k) = inl (omega (arith, h .0))
-  transitive x y z (inr h) (inr k) = inr (h .0 ∙ k .0, <ℤ-trans (h .1) (k .1))
+  irreflexive : (x : Tap) → Before D x x → ⊥
+  irreflexive x h = then-irreflexive (then-irreflexive <ℤ-irrefl) h
 
-  irreflexive : (x : Tap) → Before x x → ⊥
-  irreflexive x (inl h) = omega arith
-  irreflexive x (inr h) = <ℤ-irrefl (h .1)
+  transitive : (x y z : Tap) → Before D x y → Before D y z → Before D x z
+  transitive x y z h k = then-trans (λ m l. nearer-trans x y z l m) k h
 
-  strict : Strict (comesBefore D)
+  pub strict : Strict (comesBefore D)
   strict = record {
     irreflexive = λ x. not-T (comesBefore D x x) (λ h. irreflexive x (before-of x x h));
     transitive = λ x y z h k. of-before x z (transitive x y z (before-of x y h) (before-of y z k));
   }
 
-  settle : (s t : Tap) → t .offset <ℤ s .offset → Dec (remainder D s ≤ remainder D t) → Before t s ⊎ Before s t
-  settle s t l (yes h) = ⊎-elim (λ e. inl (inr (sym e, l))) (λ k. inl (inl k)) (eq-or-lt-of-le h)
-  settle s t l (no h) = inr (inl (omega arith))
+  settle : (s t : Tap) → t .offset <ℤ s .offset → Before D t s ⊎ Before D s t
+  settle s t l = then-settled (remainder D s) (remainder D t) (then-settled (distance t) (distance s) (inl l))
 
   settled : (ts : List Tap) → Rising ts → Settled (comesBefore D) ts
   settled [] r = tt
-  settled (t ∷ ts) r = (
-    (λ s m. ⊎-elim (λ h. inl (of-before t s h)) (λ h. inr (of-before s t h)) (settle s t (r .0 s m) (decLe (remainder D s) (remainder D t)))),
-    settled ts (r .1),
-  )
+  settled (t ∷ ts) r = ((λ s m. ⊎-elim (λ h. inl (of-before t s h)) (λ h. inr (of-before s t h)) (settle s t (r .0 s m))), settled ts (r .1))
 
 -- ---- as many units are lacking as there can be receivers, at most
 
@@ -197,7 +227,7 @@ module _ (K : Kernel) (hD : 0 < K .divisor) where
 
   -- the order of service hands out as many units as are lacking
   units : Rising (K .taps) → pos (count (getsUnit K) (K .taps)) ≡ lacking K
-  unfolding getsUnit receivers
+  unfolding getsUnit servedBefore receivers
   units r = go lacking-few
     where
       go : (L : ℕ) × Lacking K L → pos (count (getsUnit K) (K .taps)) ≡ lacking K
@@ -222,7 +252,7 @@ apportion-total K hD r = rw (total-shares K (K .taps), units K hD r) (add-sub (s
 
 -- a tap with remainder 0 gets no unit: all that have one come before it
 pub no-unit : (K : Kernel) (t : Tap) → 0 < K .divisor → remainder (K .divisor) t ≡ 0 → T (not (getsUnit K t))
-unfolding getsUnit receivers
+unfolding getsUnit servedBefore receivers
 no-unit K t hD e = go (lacking-few K hD)
   where
     ahead : receivers (K .divisor) (K .taps) ≤ count (λ s. comesBefore (K .divisor) s t) (K .taps)

@@ -2,6 +2,7 @@
 pub mod Border
 pub mod Mirror
 pub mod Apportion
+pub mod Symmetry
 pub mod Binomial
 pub mod Flat
 pub mod Weighted
@@ -9,5 +10,7 @@ pub mod Window
 pub mod Box
 pub mod Rank
 pub mod Outline
+pub mod Sides
+pub mod Flip
 pub mod Chain
 pub mod Bounds

@@ -21,7 +21,7 @@ module _ {x q : ℤ} {d m : ℕ} (x-over : Divided x d q m) where
   sum-over : Divided (x +ℤ pos d) d (q +ℤ pos 1) m
   sum-over = record { whole = omega (arith, x-over .whole, add-parts x (pos d), ap (λ (k : ℕ). d * k) (add-parts q (pos 1) .sum)); small = x-over .small }
 
-  difference-over : (c k t : ℕ) → t < d → t + m ≡ c + d * k → Divided (pos c -ℤ x) d (negℤ q -ℤ pos k) t
+  pub difference-over : (c k t : ℕ) → t < d → t + m ≡ c + d * k → Divided (pos c -ℤ x) d (negℤ q -ℤ pos k) t
   difference-over c k t h e = record {
     whole =
         omega (
@@ -72,7 +72,7 @@ module _ (n : ℕ) (h : 0 < n) where
       let e : negsuc k +ℤ pos (2 * n) ≡ pos (2 * n - 1) -ℤ pos k = parts-ext _ _ (omega (arith, add-parts (negsuc k) (pos (2 * n)), sub-parts (pos (2 * n - 1)) (pos k))) in
       sym (mirror-period (negsuc k)) ∙ ap (supply mirror n) e ∙ mirror-palindrome (pos k)
 
-  flipped-of : {x q : ℤ} {m : ℕ} → Divided x (2 * n) q m → supply mirror n (pos (n - 1) -ℤ x) ≡ some (n - 1 - folded n m)
+  pub flipped-of : {x q : ℤ} {m : ℕ} → Divided x (2 * n) q m → supply mirror n (pos (n - 1) -ℤ x) ≡ some (n - 1 - folded n m)
   flipped-of {x} {q} {m} d = go (decLe n m)
     where
       upper : (t f : ℕ) → t + suc m ≡ 3 * n → f + suc m ≡ 2 * n → 2 * n - 1 - t ≡ n - 1 - f

@@ -2,7 +2,32 @@
 ghost use mathlib.Core.Path.{_≡_};
 ghost use Prim.Native.Nat.{_<_};
 ghost use lib.ListN.{length, getD};
-ghost use Rattle.unit_order.specs.Order.{before};
+ghost use Rattle.unit_order.specs.Order.{distance, nearer, before};
+
+// How far a held offset lies from 15, which stands for offset 0.
+fn distance(offset: u8) -> u8
+    ensures { λ r. ⌜ r ≡ distance offset ⌝ }
+{
+    if offset < 15 {
+        return 15 - offset;
+    }
+    offset - 15
+}
+
+// Whether a held offset lies nearer the middle than another one, or just as near and lower.
+fn nearer(offset: u8, other: u8) -> bool
+    ensures { λ r. ⌜ r ≡ nearer offset other ⌝ }
+{
+    let here = distance(offset);
+    let there = distance(other);
+    if here < there {
+        return true;
+    }
+    if here == there {
+        return offset < other;
+    }
+    false
+}
 
 // Whether tap j comes before tap i.
 pub fn comes_before(rest: &[u64], offsets: &[u8], j: usize, i: usize) -> bool
@@ -12,8 +37,8 @@ pub fn comes_before(rest: &[u64], offsets: &[u8], j: usize, i: usize) -> bool
     if rest[i] < rest[j] {
         return true;
     }
-    if rest[j] == rest[i] {
-        return offsets[j] < offsets[i];
+    if rest[i] == rest[j] {
+        return nearer(offsets[j], offsets[i]);
     }
     false
 }

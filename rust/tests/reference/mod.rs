@@ -110,12 +110,23 @@ pub fn weights(axis: &Axis) -> Vec<i64> {
     let wanted = floor_div(2 * total + d, 2 * d);
     let lacking = wanted - units.iter().sum::<i128>();
     let mut order: Vec<usize> = (0..units.len()).collect();
-    order.sort_by_key(|&k| (-remainder(k), axis.taps[k].offset));
+    // the largest remainder first; of equal ones the one nearest to offset 0, and of two as near the lower one
+    let offset = |k: usize| axis.taps[k].offset;
+    order.sort_by_key(|&k| (-remainder(k), offset(k).abs(), offset(k)));
     assert!(0 <= lacking && lacking <= order.len() as i128);
     for &k in &order[..lacking as usize] {
         units[k] += 1;
     }
     units.into_iter().map(|x| x as i64).collect()
+}
+
+/// Whether two taps at -o and o have the same numerator and not the same weight.
+pub fn splits_a_pair(axis: &Axis) -> bool {
+    let weights = weights(axis);
+    let all: Vec<(&Tap, i64)> = axis.taps.iter().zip(weights).collect();
+    let opposite = |s: &Tap, t: &Tap| s.offset == -t.offset && s.numerator == t.numerator;
+    all.iter()
+        .any(|(s, a)| all.iter().any(|(t, b)| opposite(s, t) && a != b))
 }
 
 /// The sum of the magnitudes of the numerators.

@@ -101,6 +101,51 @@ fn reals(rng: &mut Rng, n: usize) -> Vec<u32> {
     weights
 }
 
+/// Rising offsets that have -o with each o, and a number for each, the same for both. Few different numbers, so that remainders are often equal.
+fn symmetric_taps(rng: &mut Rng) -> Vec<(i8, i64)> {
+    let reach = if rng.one_in(3) { 15 } else { 4 };
+    let mut sides: Vec<(i8, i64)> = Vec::new();
+    for o in 0..=reach {
+        if rng.one_in(2) {
+            sides.push((o, rng.pick(&[1, 1, 2, 2, 3, 5, -1])));
+        }
+    }
+    if sides.is_empty() {
+        sides.push((1, 1));
+    }
+    let left = sides.iter().rev().map(|(o, a)| (-o, *a));
+    let right = sides.iter().filter(|(o, _)| *o > 0).copied();
+    left.chain(right).collect()
+}
+
+/// Weights whose taps across are symmetric, with a gain of at most 4; the taps down are any.
+fn symmetric_weights(rng: &mut Rng, bytes: &mut Vec<u8>, real: bool) {
+    let taps = symmetric_taps(rng);
+    let gain: i64 = taps.iter().map(|(_, a)| a.abs()).sum();
+    let factor = rng.range(1, 60);
+    let least = (gain * factor + 3) / 4;
+    let any = rng.range(least, 60_000);
+    let divisor = rng.pick(&[gain * factor, 384, 3 * least, any]);
+    let divisor = divisor.clamp(least, 65_535) as u16;
+    let m = count(rng, 1, 31);
+    let down = ratios(rng, m);
+    bytes.extend([taps.len() as u8, m as u8]);
+    if !real {
+        bytes.extend(divisor.to_be_bytes());
+        bytes.extend(down.0.to_be_bytes());
+    }
+    bytes.extend(taps.iter().map(|(o, _)| *o as u8));
+    bytes.extend(offsets(rng, m).iter().map(|o| *o as u8));
+    let across = taps.iter().map(|(_, a)| (a * factor) as i16);
+    if real {
+        let fractions = across.map(|a| (a as f32 / divisor as f32).to_bits());
+        let weights: Vec<u32> = fractions.chain(reals(rng, m)).collect();
+        bytes.extend(weights.iter().flat_map(|a| a.to_be_bytes()));
+    } else {
+        bytes.extend(across.chain(down.1).flat_map(|a| a.to_be_bytes()));
+    }
+}
+
 /// Counts, divisors of ratios, offsets and weights.
 fn weighted(rng: &mut Rng, bytes: &mut Vec<u8>, real: bool) {
     let (n, m) = (count(rng, 1, 31), count(rng, 1, 31));
@@ -156,6 +201,22 @@ fn stage_of(kind: u8, rng: &mut Rng, bytes: &mut Vec<u8>) {
 fn stage(rng: &mut Rng, bytes: &mut Vec<u8>) {
     let kind = rng.range(1, 6) as u8;
     stage_of(kind, rng, bytes);
+}
+
+/// A recipe whose ratios and reals have symmetric taps across. It is mostly accepted.
+pub fn symmetric_recipe(rng: &mut Rng, stages: usize) -> Vec<u8> {
+    let mut bytes = vec![stages as u8];
+    for _ in 0..stages {
+        match rng.pick(&[1, 1, 2, 3, 4, 5, OUTLINE]) {
+            kind @ 1..=2 => {
+                let border = rng.range(0, 3) as u8;
+                bytes.extend([kind, border, if border == 0 { rng.byte() } else { 0 }]);
+                symmetric_weights(rng, &mut bytes, kind == 2);
+            }
+            kind => stage_of(kind, rng, &mut bytes),
+        }
+    }
+    bytes
 }
 
 /// A recipe that is mostly accepted.

@@ -33,15 +33,20 @@ mul-if2-2 c = search needs
 shared-slice-read-if2-2 : tie.Need-shared-slice-read-if2-2
 shared-slice-read-if2-2 c = search needs
 
-shared-slice-read-result : tie.Need-shared-slice-read-result
-shared-slice-read-result c = search needs
+shared-slice-read-nearer : tie.Need-shared-slice-read-nearer
+shared-slice-read-nearer c = search needs
 
-shared-slice-read-result-2 : tie.Need-shared-slice-read-result-2
-shared-slice-read-result-2 c = search needs
+shared-slice-read-nearer-2 : tie.Need-shared-slice-read-nearer-2
+shared-slice-read-nearer-2 c = search needs
+
+nearer-requires : tie.Need-nearer-requires
+nearer-requires c κs = search needs
 
 returns-2 : tie.Need-returns-2
 unfolding before
-returns-2 c = rw (le-ltb _ _ (c .before .before .before .before .before .if1 .left), eq-eqb _ _ (c .before .before .if2 .taken))
+returns-2 c =
+    let d = c .before .before .before in
+    rw (le-ltb _ _ (d .before .before .before .if1 .left), eq-eqb _ _ (d .if2 .taken)) (c .nearer .ensures)
 
 returns-3 : tie.Need-returns-3
 unfolding before
@@ -60,7 +65,8 @@ comes-before-spec =
     shared-slice-read-if2
     mul-if2-2
     shared-slice-read-if2-2
-    shared-slice-read-result
-    shared-slice-read-result-2
+    shared-slice-read-nearer
+    shared-slice-read-nearer-2
+    nearer-requires
     returns-2
     returns-3)

@@ -1,0 +1,34 @@
+-- Symmetric taps, and when the spare units split a pair of them (request 2026-06).
+use mathlib.Core.Bool.{Bool, _&&_}
+use mathlib.Core.List.{List}
+use lib.Dec.{ltb, eqb}
+use lib.ListN.{length}
+use lib.IntN.{ℤ, pos, negℤ, natAbs, _-ℤ_}
+use lib.Signed.{ltZ}
+use Rattle.lists.specs.Count.{count}
+use Rattle.model.specs.Kernel.{Tap, Kernel}
+use Rattle.model.specs.Apportion.{lacking, servedBefore}
+
+-- whether two whole numbers are the same
+unfoldable pub same : ℤ → ℤ → Bool
+same x y = eqb (natAbs (x -ℤ y)) 0
+
+-- whether two taps are opposite: at o and at -o, with the same weight
+unfoldable pub opposite : Tap → Tap → Bool
+opposite s t = same (s .offset) (negℤ (t .offset)) && same (s .weight) (t .weight)
+
+-- whether taps are symmetric: each of them has an opposite among them, and one at 0 is its own
+unfoldable pub symmetric : List Tap → Bool
+symmetric ts = eqb (count (λ t. ltb 0 (count (opposite t) ts)) ts) (length ts)
+
+-- how many units are left when t's turn comes; below 0, none was left before
+unfoldable pub unitsLeft : Kernel → Tap → ℤ
+unitsLeft K t = lacking K -ℤ pos (servedBefore K t)
+
+-- whether t and its opposite are split: of the two t is at the lower offset, so its turn comes first, and then one unit is left
+unfoldable pub split : Kernel → Tap → Bool
+split K t = ltZ (t .offset) (pos 0) && same (unitsLeft K t) (pos 1)
+
+-- whether all units are dealt without splitting a pair
+unfoldable pub unsplit : Kernel → Bool
+unsplit K = eqb (count (split K) (K .taps)) 0
