@@ -26,15 +26,15 @@ wantedTotal K = floorDiv (pos 131072 *ℤ total (K .taps) +ℤ pos (K .divisor))
 unfoldable pub lacking : Kernel → ℤ
 lacking K = wantedTotal K -ℤ sumℤ (map (quotient (K .divisor)) (K .taps))
 
--- how far a tap lies from the middle of its axis, offset 0
+-- how far a tap lies from offset 0
 unfoldable pub distance : Tap → ℕ
 distance t = natAbs (t .offset)
 
--- whether s lies nearer the middle than t, or just as near and at the lower offset
+-- whether s lies nearer to offset 0 than t, or just as near and lower
 unfoldable pub nearer : Tap → Tap → Bool
 nearer s t = ltb (distance s) (distance t) || eqb (distance s) (distance t) && ltZ (s .offset) (t .offset)
 
--- whether s is served before t (request 2026-06): a larger remainder wins, and between equal ones the tap nearer the middle
+-- whether s is served before t (request 2026-06): a larger remainder wins, and between equal ones the tap nearer to offset 0
 unfoldable pub comesBefore : ℕ → Tap → Tap → Bool
 comesBefore D s t = ltb (remainder D t) (remainder D s) || eqb (remainder D t) (remainder D s) && nearer s t
 

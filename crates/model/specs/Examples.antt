@@ -18,7 +18,7 @@ use Rattle.model.specs.Flip.{flipped, flippedSamples}
 use Rattle.model.specs.Kernel.{Kernel, tap, kernel, weightedSum, total, magnitude}
 use Rattle.model.specs.Binomial.{binomial, pairSums, pascalRow, choose}
 use Rattle.model.specs.Apportion.{apportion, quotient, remainder, wantedTotal, lacking, distance, nearer, comesBefore, servedBefore, getsUnit, share}
-use Rattle.model.specs.Symmetry.{symmetric, same, opposite, unitsLeft, split, unsplit}
+use Rattle.model.specs.Symmetry.{symmetric, same, opposite, hasOpposite, unitsLeft, split, unsplit}
 use Rattle.model.specs.Weighted.{rowValue, weightedResult}
 use Rattle.model.specs.Window.{area, window}
 use Rattle.model.specs.Box.{boxResult}
@@ -221,7 +221,7 @@ unfoldable pub allButFour : Answer
 allButFour = verdicts (true ∷ true ∷ true ∷ true ∷ true ∷ true ∷ true ∷ true ∷ true ∷ false ∷ false ∷ true ∷ false ∷ false ∷ true ∷ true ∷ [])
 
 -- Request 2026-06, worked by hand. 1/3 is 21,845 1/3 units and 2/3 43,690 2/3; 3/5 is 39,321 3/5:
--- two thirds lack 2/3, one unit; three thirds one; 2 2 2 over 3 two; 2 2 2 2 over 3 lack 2 2/3, three units; 3 3 3 3 over 5 lack 2 2/5, two;
+-- two taps of 1/3 lack 2/3 of a unit, which is rounded to one, and three of them one; 2 2 2 over 3 lack two; 2 2 2 2 over 3 lack 2 2/3, so three; 3 3 3 3 over 5 lack 2 2/5, so two;
 -- 1 1 over 384 are 170 2/3 units each and lack one. 171·189 is 32,319 and 170·189 is 32,130, 31.6 and 31.4 64ths: 32 of them are rounded up to a level, 31 down.
 unfoldable pub symmetry : List Example
 symmetry =
@@ -231,10 +231,10 @@ symmetry =
     ∷ row "2 2 2 over 3 at -1 0 1" (apportioned (three 3 (pos 2) (pos 2) (pos 2))) (weights (pos 43691 ∷ pos 43691 ∷ pos 43690 ∷ []))
     ∷ row "2 2 2 2 over 3 at -2 -1 1 2" (apportioned (four 3 2)) (weights (pos 43691 ∷ pos 43691 ∷ pos 43691 ∷ pos 43690 ∷ []))
     ∷ row "3 3 3 3 over 5 at -2 -1 1 2" (apportioned (four 5 3)) (weights (pos 39321 ∷ pos 39322 ∷ pos 39322 ∷ pos 39321 ∷ []))
-    ∷ row "dealt without splitting a pair: thirds; 2 2 2 over 3; the pair; the four over 3; those over 5"
-    (verdicts (map unsplit (three 3 (pos 1) (pos 1) (pos 1) ∷ three 3 (pos 2) (pos 2) (pos 2) ∷ pair 3 2 ∷ four 3 2 ∷ four 5 3 ∷ [])))
-    (verdicts (true ∷ false ∷ false ∷ false ∷ true ∷ []))
-    ∷ row "symmetric taps: a pair; 1 2 1; one at 0; 1 2 3; -1 and 1 at -1 1; thirds at 1 2 3"
+    ∷ row "dealt without splitting a pair: thirds; 2 2 2 over 3; the pair; the four over 3; those over 5; and where there is no pair: -1 -1 5; thirds at -3 -2 -1"
+    (verdicts (map unsplit (three 3 (pos 1) (pos 1) (pos 1) ∷ three 3 (pos 2) (pos 2) (pos 2) ∷ pair 3 2 ∷ four 3 2 ∷ four 5 3 ∷ three 3 (minus 1) (minus 1) (pos 5) ∷ thirds (minus 3) (minus 2) (minus 1) ∷ [])))
+    (verdicts (true ∷ false ∷ false ∷ false ∷ true ∷ true ∷ true ∷ []))
+    ∷ row "symmetric taps: a pair; 1 2 1; one at 0; 1 2 3; -1 0 1; thirds at 1 2 3"
     (verdicts (map (λ K. symmetric (K .taps)) (pair 3 2 ∷ three 4 (pos 1) (pos 2) (pos 1) ∷ one ∷ three 6 (pos 1) (pos 2) (pos 3) ∷ three 2 (minus 1) (pos 0) (pos 1) ∷ thirds (pos 1) (pos 2) (pos 3) ∷ [])))
     (verdicts (true ∷ true ∷ true ∷ false ∷ false ∷ false ∷ []))
     ∷ row "binomials with symmetric weights" (binomials (λ K. symmetric (apportion K))) allButFour
@@ -246,7 +246,7 @@ symmetry =
 
 -- every definition that an example runs through, opened by one name
 opened : Unit {0}
-unfolding modulo ceilDiv clamp sum sumℤ tabulate raster count inside closest folded supply planeOf pick around tap kernel weightedSum total magnitude pairSums pascalRow choose binomial quotient remainder wantedTotal lacking distance nearer comesBefore servedBefore getsUnit share apportion same opposite symmetric unitsLeft split unsplit flipped flippedSamples rowValue weightedResult area window boxResult insert sort smallest rankResult outlineKernels response largest edgeStrength outlineResult stage result stagePlane written scaledGain weightedGrowth growth afterStage toleranceFrom tolerance denominator numerator exactPlane exactFrom denominatorFrom exact exactDenominator row filtered exactly apportioned toleranceOf supplied minus three one two alone quadruple back outlined smoothed pair four thirds binomials allButFour
+unfolding modulo ceilDiv clamp sum sumℤ tabulate raster count inside closest folded supply planeOf pick around tap kernel weightedSum total magnitude pairSums pascalRow choose binomial quotient remainder wantedTotal lacking distance nearer comesBefore servedBefore getsUnit share apportion same opposite hasOpposite symmetric unitsLeft split unsplit flipped flippedSamples rowValue weightedResult area window boxResult insert sort smallest rankResult outlineKernels response largest edgeStrength outlineResult stage result stagePlane written scaledGain weightedGrowth growth afterStage toleranceFrom tolerance denominator numerator exactPlane exactFrom denominatorFrom exact exactDenominator row filtered exactly apportioned toleranceOf supplied minus three one two alone quadruple back outlined smoothed pair four thirds binomials allButFour
 opened = tt
 
 -- THE WORKED EXAMPLES HOLD, by computation

@@ -17,14 +17,14 @@ flipped W f u v = f (W - 1 - u) v
 unfoldable pub flippedSamples : ℕ → ℕ → List ℕ → List ℕ
 flippedSamples W H samples = raster (flipped W (planeOf W samples)) W H
 
--- left and right are alike to weights that are symmetric across (their offsets rise, as those of a recipe do), whatever they are down, and to the other three works
-abbrev pub SidesAlike : Work → Type 0
-SidesAlike (weighted across down) = Rising (across .taps) × T (symmetric (apportion across))
-SidesAlike (box r s) = Unit {0}
-SidesAlike (rank r s p) = Unit {0}
-SidesAlike outline = Unit {0}
+-- left and right are alike to a weighted work whose weights across are symmetric (at rising offsets, as every recipe has them), whatever they are down, and to the other three works
+abbrev pub LeftRightAlike : Work → Type 0
+LeftRightAlike (weighted across down) = Rising (across .taps) × T (symmetric (apportion across))
+LeftRightAlike (box r s) = Unit {0}
+LeftRightAlike (rank r s p) = Unit {0}
+LeftRightAlike outline = Unit {0}
 
--- to all stages of a list
-abbrev pub AllSidesAlike : List Stage → Type 0
-AllSidesAlike [] = Unit {0}
-AllSidesAlike (t ∷ ts) = SidesAlike (t .work) × AllSidesAlike ts
+-- left and right are alike to every stage of a list
+abbrev pub AllLeftRightAlike : List Stage → Type 0
+AllLeftRightAlike [] = Unit {0}
+AllLeftRightAlike (t ∷ ts) = LeftRightAlike (t .work) × AllLeftRightAlike ts

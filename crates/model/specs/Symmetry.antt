@@ -17,18 +17,22 @@ same x y = eqb (natAbs (x -ℤ y)) 0
 unfoldable pub opposite : Tap → Tap → Bool
 opposite s t = same (s .offset) (negℤ (t .offset)) && same (s .weight) (t .weight)
 
--- whether taps are symmetric: each of them has an opposite among them, and one at 0 is its own
-unfoldable pub symmetric : List Tap → Bool
-symmetric ts = eqb (count (λ t. ltb 0 (count (opposite t) ts)) ts) (length ts)
+-- whether some tap is t's opposite; one at 0 is its own
+unfoldable pub hasOpposite : List Tap → Tap → Bool
+hasOpposite ts t = ltb 0 (count (opposite t) ts)
 
--- how many units are left when t's turn comes; below 0, none was left before
+-- whether taps are symmetric: each of them has an opposite among them
+unfoldable pub symmetric : List Tap → Bool
+symmetric ts = eqb (count (hasOpposite ts) ts) (length ts)
+
+-- how many units are left when t's turn comes; 0 or less: none
 unfoldable pub unitsLeft : Kernel → Tap → ℤ
 unitsLeft K t = lacking K -ℤ pos (servedBefore K t)
 
--- whether t and its opposite are split: of the two t is at the lower offset, so its turn comes first, and then one unit is left
+-- whether t and its opposite are a pair that is split: t is at the lower offset, so its turn comes first, and one unit is left then
 unfoldable pub split : Kernel → Tap → Bool
-split K t = ltZ (t .offset) (pos 0) && same (unitsLeft K t) (pos 1)
+split K t = hasOpposite (K .taps) t && (ltZ (t .offset) (pos 0) && same (unitsLeft K t) (pos 1))
 
--- whether all units are dealt without splitting a pair
+-- whether the kernel's units are dealt without splitting a pair
 unfoldable pub unsplit : Kernel → Bool
 unsplit K = eqb (count (split K) (K .taps)) 0

@@ -17,13 +17,14 @@ use Rattle.lists.proofs.Raster.{raster-ext, getD-raster}
 use Rattle.model.specs.Border.{Border, constant, nearest, mirror, wrap, inside, closest, supply}
 use Rattle.model.specs.Plane.{Plane, planeOf, pick, around}
 use Rattle.model.specs.Kernel.{Kernel, Rising}
+use Rattle.model.specs.Apportion.{apportion}
 use Rattle.model.specs.Symmetry.{symmetric, unsplit}
 use Rattle.model.specs.Stage.{Stage, weighted, stage, result, stagePlane, written}
-use Rattle.model.specs.Flip.{flipped, flippedSamples, SidesAlike, AllSidesAlike}
+use Rattle.model.specs.Flip.{flipped, flippedSamples, LeftRightAlike, AllLeftRightAlike}
 use Rattle.model_laws.proofs.Border.{Inside, supply-inside}
 use Rattle.model_laws.proofs.Mirror.{difference-over, flipped-of}
 use Rattle.model_laws.proofs.Symmetry.{weights-symmetric}
-use Rattle.model_laws.proofs.Sides.{sides-alike}
+use Rattle.model_laws.proofs.Sides.{left-right-alike}
 
 -- ---- an axis of length n, counted from its other end
 
@@ -113,9 +114,9 @@ module _ (W H : ℕ) (t : Stage) where
       (λ j. pick-inside (t .value) W H f g e _ _ (supply-inside (t .border) W (pos u +ℤ i) (omega (arith, hu))) (supply-inside (t .border) H (pos v +ℤ j) (omega (arith, hv))))))
 
   -- a stage of a flipped plane
-  stage-flipped : SidesAlike (t .work) → (f : Plane) (u v : ℕ) → u < W → stagePlane W H t (flipped W f) u v ≡ flipped W (stagePlane W H t f) u v
+  stage-flipped : LeftRightAlike (t .work) → (f : Plane) (u v : ℕ) → u < W → stagePlane W H t (flipped W f) u v ≡ flipped W (stagePlane W H t f) u v
   unfolding stagePlane flipped
-  stage-flipped alike f u v hu = ap (result (t .work)) (around-flipped (t .border) (t .value) W H f u v hu) ∙ sides-alike (t .work) alike _
+  stage-flipped alike f u v hu = ap (result (t .work)) (around-flipped (t .border) (t .value) W H f u v hu) ∙ left-right-alike (t .work) alike _
 
 -- ---- samples
 
@@ -127,7 +128,7 @@ flipped-of-raster : (g : Plane) (W H u v : ℕ) → u < W → v < H → flipped 
 unfolding flipped
 flipped-of-raster g W H u v hu hv = plane-of-raster g W H (W - 1 - u) v (omega (arith, hu)) hv
 
-one-flipped : (W H : ℕ) (t : Stage) → SidesAlike (t .work) → (samples : List ℕ)
+one-flipped : (W H : ℕ) (t : Stage) → LeftRightAlike (t .work) → (samples : List ℕ)
     → raster (stagePlane W H t (planeOf W (flippedSamples W H samples))) W H ≡ flippedSamples W H (raster (stagePlane W H t (planeOf W samples)) W H)
 unfolding flippedSamples
 one-flipped W H t alike samples =
@@ -139,11 +140,18 @@ one-flipped W H t alike samples =
     ∙ sym (flipped-of-raster (stagePlane W H t f) W H u v hu hv))
 
 -- THE FLIPPED STILL GIVES THE FLIPPED RESULT, through any list of stages to which left and right are alike
-pub flip-written : (W H : ℕ) (ts : List Stage) → AllSidesAlike ts → (samples : List ℕ) → written W H ts (flippedSamples W H samples) ≡ flippedSamples W H (written W H ts samples)
+pub flip-written : (W H : ℕ) (ts : List Stage) → AllLeftRightAlike ts → (samples : List ℕ) → written W H ts (flippedSamples W H samples) ≡ flippedSamples W H (written W H ts samples)
 unfolding written
 flip-written W H [] alike samples = refl
 flip-written W H (t ∷ ts) alike samples = ap (written W H ts) (one-flipped W H t (alike .0) samples) ∙ flip-written W H ts (alike .1) _
 
--- what the lab asked for: symmetric taps across that are dealt without splitting a pair, under any border
-pub symmetric-taps-alike : (across down : Kernel) → Rising (across .taps) → T (symmetric (across .taps)) → T (unsplit across) → SidesAlike (weighted across down)
-symmetric-taps-alike across down rising even whole = (rising, weights-symmetric across rising even whole)
+-- one weighted stage, under any border
+module _ (across down : Kernel) (rising : Rising (across .taps)) where
+  pub flip-weighted : T (symmetric (apportion across)) → (W H : ℕ) (b : Border) (value : ℕ) (samples : List ℕ)
+      → written W H (stage b value (weighted across down) ∷ []) (flippedSamples W H samples) ≡ flippedSamples W H (written W H (stage b value (weighted across down) ∷ []) samples)
+  unfolding stage
+  flip-weighted even W H b value samples = flip-written W H (stage b value (weighted across down) ∷ []) ((rising, even), tt) samples
+
+  -- symmetric taps that are dealt without splitting a pair make such a stage
+  pub symmetric-taps-alike : T (symmetric (across .taps)) → T (unsplit across) → LeftRightAlike (weighted across down)
+  symmetric-taps-alike taps whole = (rising, weights-symmetric across rising taps whole)

@@ -29,7 +29,7 @@ use Rattle.model.specs.Box.{boxResult}
 use Rattle.model.specs.Rank.{insert, sort, smallest, rankResult}
 use Rattle.model.specs.Outline.{outlineKernels, response, largest, edgeStrength, outlineResult}
 use Rattle.model.specs.Stage.{Work, weighted, box, rank, outline, result}
-use Rattle.model.specs.Flip.{SidesAlike}
+use Rattle.model.specs.Flip.{LeftRightAlike}
 use Rattle.model_laws.proofs.Symmetry.{turned, turned-turned, Symmetric, symmetric-of}
 
 -- a neighbourhood turned round
@@ -247,9 +247,9 @@ outline-alike f = nine-alike _ _ _ _ _ _ _ _ _
 
 -- ---- all works
 
-pub sides-alike : (w : Work) → SidesAlike w → (f : Neighbourhood) → result w (fromTheRight f) ≡ result w f
+pub left-right-alike : (w : Work) → LeftRightAlike w → (f : Neighbourhood) → result w (fromTheRight f) ≡ result w f
 unfolding result boxResult rankResult smallest outlineResult
-sides-alike (weighted across down) (rising, even) f = weighted-alike across rising even down f
-sides-alike (box r s) h f = ap (λ (n : ℕ). (2 * n + area r s) / (2 * area r s)) (sum-window r s f)
-sides-alike (rank r s p) h f = ap (λ xs. getD xs (p - 1) 0) (sort-window r s f)
-sides-alike outline h f = ap (λ (n : ℕ). min n 255) (outline-alike f)
+left-right-alike (weighted across down) (rising, even) f = weighted-alike across rising even down f
+left-right-alike (box r s) h f = ap (λ (n : ℕ). (2 * n + area r s) / (2 * area r s)) (sum-window r s f)
+left-right-alike (rank r s p) h f = ap (λ xs. getD xs (p - 1) 0) (sort-window r s f)
+left-right-alike outline h f = ap (λ (n : ℕ). min n 255) (outline-alike f)

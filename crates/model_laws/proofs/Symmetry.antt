@@ -20,7 +20,7 @@ use Rattle.lists.proofs.Count.{count-strict}
 use Rattle.lists.proofs.Members.{mem-map, of-mem-map, count-every, every-counted, count-some, some-counted, count-either}
 use Rattle.model.specs.Kernel.{Tap, tap, Kernel, Rising}
 use Rattle.model.specs.Apportion.{quotient, remainder, lacking, distance, comesBefore, servedBefore, getsUnit, share, apportion}
-use Rattle.model.specs.Symmetry.{same, opposite, symmetric, unitsLeft, split, unsplit}
+use Rattle.model.specs.Symmetry.{same, opposite, hasOpposite, symmetric, unitsLeft, split, unsplit}
 use Rattle.model_laws.proofs.Apportion.{Before, before-of, of-before, strict}
 
 -- ---- what the tests say
@@ -41,7 +41,7 @@ and-both : (a b : Bool) → T a → T b → T (a && b)
 and-both true b h k = k
 and-both false b h k = absurd h
 
--- the tap on the other side of the middle
+-- the tap on the other side of offset 0
 unfoldable pub turned : Tap → Tap
 turned t = tap (negℤ (t .offset)) (t .weight)
 
@@ -64,17 +64,23 @@ unfolding opposite turned tap
 is-opposite t =
     and-both (same (t .offset) (negℤ (negℤ (t .offset)))) (same (t .weight) (t .weight)) (rw (negℤ-negℤ (t .offset)) (is-same (t .offset))) (is-same (t .weight))
 
+opposite-of : (ts : List Tap) (t : Tap) → T (hasOpposite ts t) → List·Memᴰ (turned t) ts
+unfolding hasOpposite
+opposite-of ts t h =
+    let found = count-some (opposite t) ts (ltb→lt 0 (count (opposite t) ts) h) in
+    rw (opposite-is t (found .0) (found .2)) (found .1)
+
+of-opposite : (ts : List Tap) (t : Tap) → List·Memᴰ (turned t) ts → T (hasOpposite ts t)
+unfolding hasOpposite
+of-opposite ts t m = lt→ltb 0 (count (opposite t) ts) (some-counted (opposite t) ts (turned t) m (is-opposite t))
+
 pub symmetric-of : (ts : List Tap) → T (symmetric ts) → Symmetric ts
 unfolding symmetric
-symmetric-of ts h t m =
-    let some = ltb→lt 0 (count (opposite t) ts) (count-every (λ x. ltb 0 (count (opposite x) ts)) ts (eqb→eq _ _ h) t m) in
-    let found = count-some (opposite t) ts some in
-    rw (opposite-is t (found .0) (found .2)) (found .1)
+symmetric-of ts h t m = opposite-of ts t (count-every (hasOpposite ts) ts (eqb→eq _ _ h) t m)
 
 pub of-symmetric : (ts : List Tap) → Symmetric ts → T (symmetric ts)
 unfolding symmetric
-of-symmetric ts h =
-    rw (every-counted (λ x. ltb 0 (count (opposite x) ts)) ts (λ t m. lt→ltb 0 (count (opposite t) ts) (some-counted (opposite t) ts (turned t) (h t m) (is-opposite t)))) (eqb-refl (length ts))
+of-symmetric ts h = rw (every-counted (hasOpposite ts) ts (λ t m. of-opposite ts t (h t m))) (eqb-refl (length ts))
 
 -- ---- the turns of a pair follow one another
 
@@ -86,7 +92,7 @@ remainder-turned : (D : ℕ) (t : Tap) → remainder D (turned t) ≡ remainder 
 unfolding remainder turned tap
 remainder-turned D t = refl
 
--- as far from the middle as the lower one of a pair, and below the upper one
+-- as far from offset 0 as the lower one of a pair, and below the upper one
 lower-one : (x o : ℤ) → o <ℤ pos 0 → natAbs x ≡ natAbs o → x <ℤ negℤ o → x ≡ o
 lower-one x (pos c) l e k = absurd (omega (arith, parts-of-lt l))
 lower-one (pos a) (negsuc c) l e k = absurd (omega (arith, e, parts-of-lt k))
@@ -159,9 +165,24 @@ halved n L h =
     let e : L ≡ pos (n + 1) = parts-ext L (pos (n + 1)) (omega (arith, ap posPart (same-is _ _ h), ap negPart (same-is _ _ h), sub-parts L (pos n) .sum)) in
     rw e (lt-ltb n (n + 1) (omega arith), le-ltb (n + 1) (n + 1) (omega arith))
 
-split-low : (K : Kernel) (t : Tap) → T (split K t) → T (ltZ (t .offset) (pos 0))
+-- what the test of a split pair says
+pub record Split (K : Kernel) (t : Tap) : Type 0 where
+  pub pair : List·Memᴰ (turned t) (K .taps)
+  pub low : t .offset <ℤ pos 0
+  pub last : T (same (unitsLeft K t) (pos 1))
+
+pub split-is : (K : Kernel) (t : Tap) → T (split K t) → Split K t
 unfolding split
-split-low K t h = both (ltZ (t .offset) (pos 0)) _ h .0
+split-is K t h =
+    let p = both (hasOpposite (K .taps) t) (ltZ (t .offset) (pos 0) && same (unitsLeft K t) (pos 1)) h in
+    let q = both (ltZ (t .offset) (pos 0)) (same (unitsLeft K t) (pos 1)) (p .1) in
+    record { pair = opposite-of (K .taps) t (p .0); low = ltZ-yes (q .0); last = q .1 }
+
+is-split : (K : Kernel) (t : Tap) → Split K t → T (split K t)
+unfolding split
+is-split K t s =
+    and-both (hasOpposite (K .taps) t) (ltZ (t .offset) (pos 0) && same (unitsLeft K t) (pos 1)) (of-opposite (K .taps) t (s .pair))
+    (and-both (ltZ (t .offset) (pos 0)) (same (unitsLeft K t) (pos 1)) (s .low .lt) (s .last))
 
 -- two of rising taps at one offset are one
 one-at : {ts : List Tap} {s t : Tap} → Rising ts → List·Memᴰ s ts → List·Memᴰ t ts → s .offset ≡ t .offset → s ≡ t
@@ -171,28 +192,27 @@ one-at {s = s} {t} r (List·Memᴰ·tail m) (List·Memᴰ·head d) o = absurd (<
 one-at r (List·Memᴰ·tail m) (List·Memᴰ·tail n) o = one-at (r .1) m n o
 
 module _ (K : Kernel) (rising : Rising (K .taps)) where
-  module _ (t : Tap) (m : List·Memᴰ t (K .taps)) (low : t .offset <ℤ pos 0) where
-    split-units : T (split K t) → (getsUnit K t ≡ true) × (getsUnit K (turned t) ≡ false)
-    unfolding split unitsLeft getsUnit
-    split-units h = rw (one-turn-later K rising t m low) (halved (servedBefore K t) (lacking K) (both (ltZ (t .offset) (pos 0)) _ h .1))
+  module _ (t : Tap) (m : List·Memᴰ t (K .taps)) where
+    split-units : Split K t → (getsUnit K t ≡ true) × (getsUnit K (turned t) ≡ false)
+    unfolding unitsLeft getsUnit
+    split-units s = rw (one-turn-later K rising t m (s .low)) (halved (servedBefore K t) (lacking K) (s .last))
 
     -- a pair that is split: the lower one has a unit more
-    pub split-by-one : T (split K t) → (share K t) .weight ≡ (share K (turned t)) .weight +ℤ pos 1
+    pub split-by-one : Split K t → (share K t) .weight ≡ (share K (turned t)) .weight +ℤ pos 1
     unfolding share quotient turned tap
-    split-by-one h = rw (split-units h .0, split-units h .1, +ℤ-idr (floorDiv (pos 65536 *ℤ t .weight) (K .divisor)))
+    split-by-one s = rw (split-units s .0, split-units s .1, +ℤ-idr (floorDiv (pos 65536 *ℤ t .weight) (K .divisor)))
 
-    unsplit-low : T (not (split K t)) → getsUnit K t ≡ getsUnit K (turned t)
-    unfolding split unitsLeft getsUnit
-    unsplit-low h =
-        let last = same (unitsLeft K t) (pos 1) in
-        rw (one-turn-later K rising t m low) (alike (servedBefore K t) (lacking K) (not-T last (λ k. T-not (split K t) h (and-both (ltZ (t .offset) (pos 0)) last (low .lt) k))))
+    unsplit-low : (Split K t → ⊥) → List·Memᴰ (turned t) (K .taps) → t .offset <ℤ pos 0 → getsUnit K t ≡ getsUnit K (turned t)
+    unfolding unitsLeft getsUnit
+    unsplit-low n pair low =
+        rw (one-turn-later K rising t m low) (alike (servedBefore K t) (lacking K) (not-T (same (unitsLeft K t) (pos 1)) (λ last. n (record { pair = pair; low = low; last = last }))))
 
   module _ (even : Symmetric (K .taps)) where
     -- no pair is split: of each both get a unit, or none does
     module _ (whole : T (unsplit K)) where
-      not-split : (t : Tap) → List·Memᴰ t (K .taps) → T (not (split K t))
+      not-split : (t : Tap) → List·Memᴰ t (K .taps) → Split K t → ⊥
       unfolding unsplit
-      not-split t m = not-T (split K t) (λ h. absurd (omega (arith, some-counted (split K) (K .taps) t m h, eqb→eq (count (split K) (K .taps)) 0 whole)))
+      not-split t m s = omega (arith, some-counted (split K) (K .taps) t m (is-split K t s), eqb→eq (count (split K) (K .taps)) 0 whole)
 
       units-alike : (t : Tap) → List·Memᴰ t (K .taps) → getsUnit K t ≡ getsUnit K (turned t)
       unfolding turned tap
@@ -202,8 +222,8 @@ module _ (K : Kernel) (rising : Rising (K .taps)) where
           go (pos zero) e = ap (getsUnit K) (rw e refl)
           go (pos (suc n)) e =
               let low : (turned t) .offset <ℤ pos 0 = rw e (ltZ-yes tt) in
-              sym (unsplit-low (turned t) (even t m) low (not-split (turned t) (even t m)) ∙ ap (getsUnit K) (turned-turned t))
-          go (negsuc n) e = unsplit-low t m (rw e (ltZ-yes tt)) (not-split t m)
+              sym (unsplit-low (turned t) (even t m) (not-split (turned t) (even t m)) (even (turned t) (even t m)) low ∙ ap (getsUnit K) (turned-turned t))
+          go (negsuc n) e = unsplit-low t m (not-split t m) (even t m) (rw e (ltZ-yes tt))
 
       share-turned : (t : Tap) → List·Memᴰ t (K .taps) → turned (share K t) ≡ share K (turned t)
       unfolding share quotient turned tap
@@ -230,9 +250,8 @@ module _ (K : Kernel) (rising : Rising (K .taps)) where
         where
           go : (t : Tap) × List·Memᴰ t (K .taps) × T (split K t) → ⊥
           go (t, m, h) =
-              let low : t .offset <ℤ pos 0 = ltZ-yes (split-low K t h) in
-              let q = (share K (turned t)) .weight in
-              omega (arith, ap posPart (sym (same-share t m) ∙ split-by-one t m low h), ap negPart (sym (same-share t m) ∙ split-by-one t m low h), add-parts q (pos 1) .sum)
+              let e = sym (same-share t m) ∙ split-by-one t m (split-is K t h) in
+              omega (arith, ap posPart e, ap negPart e, add-parts ((share K (turned t)) .weight) (pos 1) .sum)
 
 -- THE WEIGHTS OF SYMMETRIC TAPS ARE SYMMETRIC where no pair is split, and only there
 module _ (K : Kernel) (rising : Rising (K .taps)) (taps : T (symmetric (K .taps))) where

@@ -7,7 +7,7 @@ use lib.Dec.{ltb, eqb}
 unfoldable pub distance : ℕ → ℕ
 distance o = (o - 15) + (15 - o)
 
--- whether held offset o lies nearer the middle than p, or just as near and lower
+-- whether held offset o lies nearer to 15 than p, or just as near and lower
 unfoldable pub nearer : ℕ → ℕ → Bool
 nearer o p = ltb (distance o) (distance p) || eqb (distance o) (distance p) && ltb o p
 

@@ -14,7 +14,7 @@ fn distance(offset: u8) -> u8
     offset - 15
 }
 
-// Whether a held offset lies nearer the middle than another one, or just as near and lower.
+// Whether a held offset lies nearer to 15 than another one, or just as near and lower.
 fn nearer(offset: u8, other: u8) -> bool
     ensures { λ r. ⌜ r ≡ nearer offset other ⌝ }
 {

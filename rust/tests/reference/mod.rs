@@ -120,13 +120,11 @@ pub fn weights(axis: &Axis) -> Vec<i64> {
     units.into_iter().map(|x| x as i64).collect()
 }
 
-/// Whether two taps at -o and o have the same numerator and not the same weight.
-pub fn splits_a_pair(axis: &Axis) -> bool {
-    let weights = weights(axis);
-    let all: Vec<(&Tap, i64)> = axis.taps.iter().zip(weights).collect();
-    let opposite = |s: &Tap, t: &Tap| s.offset == -t.offset && s.numerator == t.numerator;
-    all.iter()
-        .any(|(s, a)| all.iter().any(|(t, b)| opposite(s, t) && a != b))
+/// Whether with each tap at o there is one at -o, and their weights in 65,536ths are the same.
+pub fn has_symmetric_weights(axis: &Axis) -> bool {
+    let offsets = axis.taps.iter().map(|t| t.offset);
+    let all: Vec<(i64, i64)> = offsets.zip(weights(axis)).collect();
+    all.iter().all(|(o, a)| all.contains(&(-o, *a)))
 }
 
 /// The sum of the magnitudes of the numerators.

@@ -107,7 +107,7 @@ fn symmetric_taps(rng: &mut Rng) -> Vec<(i8, i64)> {
     let mut sides: Vec<(i8, i64)> = Vec::new();
     for o in 0..=reach {
         if rng.one_in(2) {
-            sides.push((o, rng.pick(&[1, 1, 2, 2, 3, 5, -1])));
+            sides.push((o, rng.pick(&[1, 1, 2, 2, 3, 5, -1, 0])));
         }
     }
     if sides.is_empty() {
@@ -121,11 +121,11 @@ fn symmetric_taps(rng: &mut Rng) -> Vec<(i8, i64)> {
 /// Weights whose taps across are symmetric, with a gain of at most 4; the taps down are any.
 fn symmetric_weights(rng: &mut Rng, bytes: &mut Vec<u8>, real: bool) {
     let taps = symmetric_taps(rng);
-    let gain: i64 = taps.iter().map(|(_, a)| a.abs()).sum();
     let factor = rng.range(1, 60);
-    let least = (gain * factor + 3) / 4;
+    let magnitude: i64 = taps.iter().map(|(_, a)| factor * a.abs()).sum();
+    let least = ((magnitude + 3) / 4).max(1);
     let any = rng.range(least, 60_000);
-    let divisor = rng.pick(&[gain * factor, 384, 3 * least, any]);
+    let divisor = rng.pick(&[magnitude, 384, 3 * least, any]);
     let divisor = divisor.clamp(least, 65_535) as u16;
     let m = count(rng, 1, 31);
     let down = ratios(rng, m);
@@ -203,11 +203,16 @@ fn stage(rng: &mut Rng, bytes: &mut Vec<u8>) {
     stage_of(kind, rng, bytes);
 }
 
-/// A recipe whose ratios and reals have symmetric taps across. It is mostly accepted.
+/// A recipe whose ratios and reals have symmetric taps across, the first stage always. It is mostly accepted.
 pub fn symmetric_recipe(rng: &mut Rng, stages: usize) -> Vec<u8> {
     let mut bytes = vec![stages as u8];
-    for _ in 0..stages {
-        match rng.pick(&[1, 1, 2, 3, 4, 5, OUTLINE]) {
+    for k in 0..stages {
+        let kinds: &[u8] = if k == 0 {
+            &[1, 1, 2]
+        } else {
+            &[1, 2, 3, 4, 5, OUTLINE]
+        };
+        match rng.pick(kinds) {
             kind @ 1..=2 => {
                 let border = rng.range(0, 3) as u8;
                 bytes.extend([kind, border, if border == 0 { rng.byte() } else { 0 }]);
