@@ -43,6 +43,14 @@ bit-same a = go (bit-eq a a)
     go (one e) = refl
     go (none e) = absurd (e refl)
 
+pub bit-true : (t : Bool) → T t → _≡_ {A = ℕ} (cond t 1 0) 1
+bit-true true h = refl
+bit-true false h = absurd h
+
+pub bit-false : (t : Bool) → T (not t) → _≡_ {A = ℕ} (cond t 1 0) 0
+bit-false true h = absurd h
+bit-false false h = refl
+
 pub bit-one : (t : Bool) → cond t 1 0 ≤ 1
 bit-one true = omega arith
 bit-one false = omega arith

@@ -9,7 +9,7 @@ use mathlib.Core.List.{List, [], _∷_, map, List·Memᴰ, List·Memᴰ·head, L
 use lib.ListN.{length}
 use lib.Dec.{T}
 use Rattle.lists.specs.Count.{count}
-use Rattle.lists.proofs.Count.{bit-one, count-strict, count-length}
+use Rattle.lists.proofs.Count.{bit-true, bit-one, count-strict, count-length}
 
 module _ {A B : Type 0} (f : A → B) where
   pub mem-map : {xs : List A} {x : A} → List·Memᴰ x xs → List·Memᴰ (f x) (map f xs)
@@ -26,10 +26,6 @@ passed : (t : Bool) → 1 ≤ cond t 1 0 → T t
 passed true h = tt
 passed false h = absurd (omega arith)
 
-bit-passed : (t : Bool) → T t → 1 ≤ cond t 1 0
-bit-passed true h = omega arith
-bit-passed false h = absurd h
-
 module _ {A : Type 0} (p : A → Bool) where
   pub count-every : (xs : List A) → count p xs ≡ length xs → (z : A) → List·Memᴰ z xs → T (p z)
   unfolding count
@@ -39,7 +35,7 @@ module _ {A : Type 0} (p : A → Bool) where
   pub every-counted : (xs : List A) → ((z : A) → List·Memᴰ z xs → T (p z)) → count p xs ≡ length xs
   unfolding count
   every-counted [] h = refl
-  every-counted (x ∷ xs) h = omega (arith, bit-passed (p x) (h x (List·Memᴰ·head refl)), bit-one (p x), every-counted xs (λ z m. h z (List·Memᴰ·tail m)))
+  every-counted (x ∷ xs) h = omega (arith, bit-true (p x) (h x (List·Memᴰ·head refl)), every-counted xs (λ z m. h z (List·Memᴰ·tail m)))
 
   pub count-some : (xs : List A) → 0 < count p xs → (z : A) × List·Memᴰ z xs × T (p z)
   unfolding count
@@ -55,7 +51,7 @@ module _ {A : Type 0} (p : A → Bool) where
 
 bit-either : (a b c : Bool) → (T a → T b ⊎ T c) → cond a 1 0 ≤ cond b 1 0 + cond c 1 0
 bit-either false b c h = omega arith
-bit-either true b c h = ⊎-elim (λ k. omega (arith, bit-passed b k)) (λ k. omega (arith, bit-passed c k)) (h tt)
+bit-either true b c h = ⊎-elim (λ k. omega (arith, bit-true b k)) (λ k. omega (arith, bit-true c k)) (h tt)
 
 -- those that pass one test pass another or a third
 pub count-either : {A : Type 0} (p q r : A → Bool) → ((x : A) → T (p x) → T (q x) ⊎ T (r x)) → (xs : List A) → count p xs ≤ count q xs + count r xs

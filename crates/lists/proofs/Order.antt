@@ -8,7 +8,7 @@ use mathlib.Core.List.{List, [], _∷_, List·Memᴰ}
 use lib.ListN.{length}
 use lib.Dec.{T, ltb, ltb→lt, lt→ltb, not-T, T-not}
 use Rattle.lists.specs.Count.{count}
-use Rattle.lists.proofs.Count.{count-mono, count-strict, count-ext, count-length, Bit, one, none, bit-lt}
+use Rattle.lists.proofs.Count.{count-mono, count-strict, count-ext, count-length, Bit, one, none, bit-lt, bit-true, bit-false}
 
 pub record Strict {A : Type 0} (before : A → A → Bool) : Type 0 where
   pub irreflexive : (x : A) → T (not (before x x))
@@ -27,14 +27,6 @@ same-test a b c d h k = go (ltb a b) (ltb c d) (λ t. lt→ltb c d (h (ltb→lt 
     go true false i j = absurd (i tt)
     go false true i j = absurd (j tt)
     go false false i j = refl
-
-bit-true : (t : Bool) → T t → _≡_ {A = ℕ} (cond t 1 0) 1
-bit-true true h = refl
-bit-true false h = absurd h
-
-bit-false : (t : Bool) → T (not t) → _≡_ {A = ℕ} (cond t 1 0) 0
-bit-false true h = absurd h
-bit-false false h = refl
 
 module _ {A : Type 0} (before : A → A → Bool) (strict : Strict before) where
   -- how many elements stand before x
