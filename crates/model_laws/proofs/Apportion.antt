@@ -82,11 +82,11 @@ Nearer s t = Then (distance s) (distance t) (s .offset <ℤ t .offset)
 abbrev pub Before : ℕ → Tap → Tap → Type 0
 Before D s t = Then (remainder D t) (remainder D s) (Nearer s t)
 
-pub nearer-of : (s t : Tap) → T (nearer s t) → Nearer s t
+nearer-of : (s t : Tap) → T (nearer s t) → Nearer s t
 unfolding nearer
 nearer-of s t h = then-by ltZ-yes (then-of (distance s) (distance t) _ h)
 
-pub of-nearer : (s t : Tap) → Nearer s t → T (nearer s t)
+of-nearer : (s t : Tap) → Nearer s t → T (nearer s t)
 unfolding nearer
 of-nearer s t h = of-then (distance s) (distance t) _ (then-by (λ l. l .lt) h)
 

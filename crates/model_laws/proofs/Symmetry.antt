@@ -25,11 +25,11 @@ use Rattle.model_laws.proofs.Apportion.{Before, before-of, of-before, s
 
 -- ---- what the tests say
 
-pub same-is : (x y : ℤ) → T (same x y) → x ≡ y
+same-is : (x y : ℤ) → T (same x y) → x ≡ y
 unfolding same
 same-is x y h = parts-ext x y (omega (arith, eqb→eq (natAbs (x -ℤ y)) 0 h, abs-parts (x -ℤ y), sub-parts x y .sum))
 
-pub is-same : (x : ℤ) → T (same x x)
+is-same : (x : ℤ) → T (same x x)
 unfolding same
 is-same x = rw (+ℤ-invr x) tt
 
