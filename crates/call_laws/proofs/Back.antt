@@ -16,6 +16,7 @@ use Rattle.still_writer.proofs.WriteLaws.{accepted}
 use Rattle.round_trip.proofs.RoundTrip.{round-trip, round-trip-samples, picture-valid}
 use Rattle.recipe.specs.Recipe.{recipeStages}
 use Rattle.room.specs.Room.{lent}
+use Rattle.filter_answers.specs.declared.Limits.{Limits}
 use Rattle.filter_answers.specs.FileAnswer.{samplesOf}
 use Rattle.filter_answers.proofs.FileAccepted.{file-accepted}
 use Rattle.raster_filter.specs.FilteredRaster.{filteredRaster}
@@ -39,11 +40,11 @@ written-reads-back W H c raster out after n w =
     reads-back W H c (s .0) (s .1) (a .channels) raster (a .raster-is) after n (front-two (headerBytes W H c) raster _ after n (a .length-is) (w .output))
 
 -- where `filter_file` gives a picture, they are that picture with the filtered samples
-pub filtered-reads-back : (recipe still work work′ : List ℕ) (rows rows′ : List ℤ) (sums sums′ out out′ : List ℕ) (W H c T n : ℕ)
-    → FiltersFile recipe still work work′ rows rows′ sums sums′ out out′ (Picture W H c T n)
+pub filtered-reads-back : (m : Limits) (recipe still work work′ : List ℕ) (rows rows′ : List ℤ) (sums sums′ out out′ : List ℕ) (W H c T n : ℕ)
+    → FiltersFile m recipe still work work′ rows rows′ sums sums′ out out′ (Picture W H c T n)
     → ReadsBack out′ n W H c (filteredRaster W H c (recipeStages recipe) (samplesOf (stillOf still) still))
-filtered-reads-back recipe still work work′ rows rows′ sums sums′ out out′ W H c T n f =
+filtered-reads-back m recipe still work work′ rows rows′ sums sums′ out out′ W H c T n f =
     let l = lent (length work) (length rows) (length sums) (length out) in
-    let v = picture-valid still (file-accepted recipe still l (sym (f .answered)) .read) in
+    let v = picture-valid still (file-accepted m recipe still l (sym (f .answered)) .read) in
     reads-back W H c (v .width) (v .height) (v .channels) _ (filtered-length W H c (recipeStages recipe) (samplesOf (stillOf still) still)) out′ n
-    (saved-front recipe still out out′ l (Picture W H c T n) (f .answered) (f .output))
+    (saved-front m recipe still out out′ l (Picture W H c T n) (f .answered) (f .output))

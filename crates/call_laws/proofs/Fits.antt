@@ -10,6 +10,7 @@ use Rattle.refusals.specs.Refusal.{verdict}
 use Rattle.refusals.specs.declared.Verdict.the-variants.{Passed, Refused}
 use Rattle.refusals.proofs.Passed.{AllPass, all-pass, all-append, passed-all}
 use Rattle.model.specs.Stage.{Stage, stage}
+use Rattle.model.specs.Tolerance.{tolerance}
 use Rattle.answers.specs.declared.Still.the-variants as Still
 use Rattle.answers.specs.declared.Recipe.the-variants.{Stages}
 use Rattle.answers.specs.declared.File.the-variants as File
@@ -26,8 +27,10 @@ use Rattle.recipe.specs.Recipe.{stagesTests, stagesOf, recipeTests, recipeStage
 use Rattle.recipe.proofs.Accepted.{recipe-read}
 use Rattle.table_sizes.specs.Needs.{tableSize, sumNeed}
 use Rattle.room.specs.Room.{roomTests}
-use Rattle.filter_answers.specs.FileAnswer.{fileSize}
+use Rattle.filter_answers.specs.Limits.{archive}
+use Rattle.filter_answers.specs.FileAnswer.{fileSize, pictureAnswer}
 use Rattle.filter_answers.proofs.FileAccepted.{picture-read, file-refused, file-done}
+use Rattle.filter_answers.proofs.NoLimit.{archive-itself, stages-within, samples-within}
 use Rattle.program_filter.specs.Program.{programLent, programAnswer}
 
 -- ---- a recipe that is accepted has no larger window than 31 by 31
@@ -64,6 +67,11 @@ module _ (W H : ℕ) where
 -- ---- the two sizes
 
 module _ (recipe still : List ℕ) {S T : ℕ} (accepted : recipeOf recipe ≡ Stages S T) {c start : ℕ} where
+  within-limits : {W H : ℕ} → stillOf still ≡ Still.Picture W H c start → pictureAnswer archive recipe still ≡ File.Picture W H c (tolerance (recipeStages recipe)) (fileSize W H c)
+  within-limits e =
+      let v = recipe-read recipe accepted .0 in
+      picture-read archive recipe still v (stages-within archive-itself recipe v) e (samples-within archive-itself still e)
+
   enough : stillOf still ≡ Still.Picture 96 72 c start → verdict (roomTests 96 72 (recipeStages recipe) (fileSize 96 72 c) programLent) ≡ Passed
   unfolding roomTests fileSize verdict
   enough e =
@@ -77,9 +85,9 @@ module _ (recipe still : List ℕ) {S T : ℕ} (accepted : recipeOf recipe ≡ S
   unfolding programAnswer
   fits-96-by-72 e =
       let r = recipe-read recipe accepted in
-      file-done recipe still programLent (picture-read recipe still (r .0) e) (enough e) ∙ rw (r .1)
+      file-done archive recipe still programLent (within-limits e) (enough e) ∙ rw (r .1)
 
   -- 144 by 96: too few row values are lent
   pub refused-144-by-96 : stillOf still ≡ Still.Picture 144 96 c start → programAnswer recipe still ≡ File.Refused 20
   unfolding programAnswer roomTests verdict
-  refused-144-by-96 e = file-refused recipe still programLent (picture-read recipe still (recipe-read recipe accepted .0) e) refl
+  refused-144-by-96 e = file-refused archive recipe still programLent (within-limits e) refl

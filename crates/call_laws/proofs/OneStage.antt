@@ -34,6 +34,7 @@ use Rattle.recipe.specs.Recipe.{stagesTests, stagesOf, recipeTests, recipeStage
 use Rattle.recipe.proofs.Accepted.{accepted}
 use Rattle.room.specs.declared.Lent.{Lent}
 use Rattle.filter_answers.specs.PlaneAnswer.{planeAnswer}
+use Rattle.filter_answers.specs.declared.Limits.{Limits}
 use Rattle.filter_answers.specs.FileAnswer.{fileAnswer}
 use Rattle.filter_answers.proofs.PlaneAccepted.{plane-accepted}
 use Rattle.filter_answers.proofs.FileAccepted.{file-accepted}
@@ -108,7 +109,7 @@ plane-tolerance recipe W H n l {T} e =
     let a = plane-accepted recipe W H n l e in
     passed-reads recipe (a .suffices .accepted) ∙ rw (a .one, a .T-is)
 
-pub file-tolerance : (recipe still : List ℕ) (l : Lent) {W H c T n : ℕ} → fileAnswer recipe still l ≡ Picture W H c T n → recipeOf recipe ≡ Stages (at recipe 0) T
-file-tolerance recipe still l e =
-    let a = file-accepted recipe still l e in
+pub file-tolerance : (m : Limits) (recipe still : List ℕ) (l : Lent) {W H c T n : ℕ} → fileAnswer m recipe still l ≡ Picture W H c T n → recipeOf recipe ≡ Stages (at recipe 0) T
+file-tolerance m recipe still l e =
+    let a = file-accepted m recipe still l e in
     passed-reads recipe (a .suffices .accepted) ∙ ap (Stages (at recipe 0)) (a .T-is)

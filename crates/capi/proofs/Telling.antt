@@ -10,6 +10,7 @@ use Rattle.answers.specs.declared.File.{File}
 use Rattle.answers.specs.declared.Movement.{Movement}
 use Rattle.plane_filter.specs.FiltersPlane as Plane
 use Rattle.file_filter.specs.FiltersFile as File
+use Rattle.filter_answers.specs.declared.Limits.{Limits}
 use Rattle.movement_answers.specs.Run.{Run}
 use Rattle.movement_filter.specs.CountsMovement as Movement
 use Rattle.told.specs.Numbers.{Tells, writtenTold, planeTold, fileTold, movementTold}
@@ -25,8 +26,8 @@ pub filters-plane : {recipe : List ℕ} {W H : ℕ} {plane work work′ : List �
 filters-plane {recipe} {W} {H} {plane} {work} {work′} {rows} {rows′} {sums} {sums′} {out} {out′} f t = record { filtered = subst (λ (x : Filtered). Plane.FiltersPlane recipe W H plane work work′ rows rows′ sums sums′ out out′ x) (f .answered) f; told = told planeTold (f .answered) t }
 
 -- a file filtered and its answer told
-pub filters-file : {recipe still work work′ : List ℕ} {rows rows′ : List ℤ} {sums sums′ out out′ xs ys : List ℕ} {r : ℕ} {a : File} → File.FiltersFile recipe still work work′ rows rows′ sums sums′ out out′ a → Tells (fileTold a) xs ys r → FiltersFile recipe still work work′ rows rows′ sums sums′ out out′ xs ys r
-filters-file {recipe} {still} {work} {work′} {rows} {rows′} {sums} {sums′} {out} {out′} f t = record { filtered = subst (λ (x : File). File.FiltersFile recipe still work work′ rows rows′ sums sums′ out out′ x) (f .answered) f; told = told fileTold (f .answered) t }
+pub filters-file : {m : Limits} {recipe still work work′ : List ℕ} {rows rows′ : List ℤ} {sums sums′ out out′ xs ys : List ℕ} {r : ℕ} {a : File} → File.FiltersFile m recipe still work work′ rows rows′ sums sums′ out out′ a → Tells (fileTold a) xs ys r → FiltersFile m recipe still work work′ rows rows′ sums sums′ out out′ xs ys r
+filters-file {m} {recipe} {still} {work} {work′} {rows} {rows′} {sums} {sums′} {out} {out′} f t = record { filtered = subst (λ (x : File). File.FiltersFile m recipe still work work′ rows rows′ sums sums′ out out′ x) (f .answered) f; told = told fileTold (f .answered) t }
 
 -- the movement between two stills counted and its answer told
 pub counts-movement : {L : ℕ} {a b : Run} {work work′ : List ℕ} {rows rows′ : List ℤ} {sums sums′ out1 out1′ out2 out2′ xs ys : List ℕ} {r : ℕ} {m : Movement} → Movement.CountsMovement L a b work work′ rows rows′ sums sums′ out1 out1′ out2 out2′ m → Tells (movementTold m) xs ys r → CountsMovement L a b work work′ rows rows′ sums sums′ out1 out1′ out2 out2′ xs ys r

@@ -6,6 +6,7 @@ use lib.IntN.{ℤ}
 use Rattle.still_writer.specs.Write.{writtenOf, Writes}
 use Rattle.room.specs.Room.{lent}
 use Rattle.filter_answers.specs.PlaneAnswer.{planeAnswer}
+use Rattle.filter_answers.specs.declared.Limits.{Limits}
 use Rattle.filter_answers.specs.FileAnswer.{fileAnswer}
 use Rattle.plane_filter.specs.FiltersPlane as Plane
 use Rattle.file_filter.specs.FiltersFile as File
@@ -24,10 +25,10 @@ pub record FiltersPlane (recipe : List ℕ) (W H : ℕ) (plane work work′ : Li
   pub filtered : Plane.FiltersPlane recipe W H plane work work′ rows rows′ sums sums′ out out′ (planeAnswer recipe W H (length plane) (lent (length work) (length rows) (length sums) (length out)))
   pub told : Tells (planeTold (planeAnswer recipe W H (length plane) (lent (length work) (length rows) (length sums) (length out)))) array array′ r
 
--- `filter_file`, for the answer that its definition gives
-pub record FiltersFile (recipe still work work′ : List ℕ) (rows rows′ : List ℤ) (sums sums′ out out′ array array′ : List ℕ) (r : ℕ) : Type 0 where
-  pub filtered : File.FiltersFile recipe still work work′ rows rows′ sums sums′ out out′ (fileAnswer recipe still (lent (length work) (length rows) (length sums) (length out)))
-  pub told : Tells (fileTold (fileAnswer recipe still (lent (length work) (length rows) (length sums) (length out)))) array array′ r
+-- `filter_file` for a caller with limits m, for the answer that its definition gives
+pub record FiltersFile (m : Limits) (recipe still work work′ : List ℕ) (rows rows′ : List ℤ) (sums sums′ out out′ array array′ : List ℕ) (r : ℕ) : Type 0 where
+  pub filtered : File.FiltersFile m recipe still work work′ rows rows′ sums sums′ out out′ (fileAnswer m recipe still (lent (length work) (length rows) (length sums) (length out)))
+  pub told : Tells (fileTold (fileAnswer m recipe still (lent (length work) (length rows) (length sums) (length out)))) array array′ r
 
 -- `count_movement`, for the answer that its definition gives
 pub record CountsMovement (L : ℕ) (a b : Run) (work work′ : List ℕ) (rows rows′ : List ℤ) (sums sums′ out1 out1′ out2 out2′ array array′ : List ℕ) (r : ℕ) : Type 0 where

@@ -1,7 +1,9 @@
 // The calls for C and Rust. Each gives the refusal's number, or 0 and its numbers in a lent array.
+use filter_answers::Limits;
 ghost use lib.ListN.{length};
 ghost use Rattle.still_reader.specs.Read.{stillOf};
 ghost use Rattle.recipe.specs.Recipe.{recipeOf};
+ghost use Rattle.filter_answers.specs.Limits.{limits, archive};
 ghost use Rattle.background.specs.Change.{addition, removal};
 ghost use Rattle.background.specs.Memory.{backgroundIn};
 ghost use Rattle.movement_runs.specs.RunsBoth.{runOn};
@@ -64,7 +66,7 @@ pub extern "C" fn hejslopi_filter_plane(
     )
 }
 
-// Filter a file: width, height, channels, T and the output's length.
+// Filter a file with the archive's limits: width, height, channels, T and the output's length.
 #[no_mangle]
 pub extern "C" fn hejslopi_filter_file(
     recipe: &[u8],
@@ -75,10 +77,47 @@ pub extern "C" fn hejslopi_filter_file(
     out: &mut [u8],
     result: &mut [u64; 5],
 ) -> u32
-    ensures { λ r. ⌜ FiltersFile (now (recipe .entry)) (now (still .entry)) (now (work .entry)) (now (work .exit)) (now (rows .entry)) (now (rows .exit)) (now (sums .entry)) (now (sums .exit)) (now (out .entry)) (now (out .exit)) (now (result .entry)) (now (result .exit)) r ⌝ }
+    ensures { λ r. ⌜ FiltersFile archive (now (recipe .entry)) (now (still .entry)) (now (work .entry)) (now (work .exit)) (now (rows .entry)) (now (rows .exit)) (now (sums .entry)) (now (sums .exit)) (now (out .entry)) (now (out .exit)) (now (result .entry)) (now (result .exit)) r ⌝ }
 {
     told::file(
-        file_filter::filter_file(recipe, still, work, rows, sums, out),
+        file_filter::filter_file(
+            recipe,
+            still,
+            filter_answers::ARCHIVE,
+            work,
+            rows,
+            sums,
+            out,
+        ),
+        result,
+    )
+}
+
+// Filter a file with limits on the stages and on the samples a plane: the same.
+#[no_mangle]
+pub extern "C" fn hejslopi_filter_file_limited(
+    recipe: &[u8],
+    still: &[u8],
+    stages: usize,
+    samples: usize,
+    work: &mut [u8],
+    rows: &mut [i32],
+    sums: &mut [u32],
+    out: &mut [u8],
+    result: &mut [u64; 5],
+) -> u32
+    ensures { λ r. ⌜ FiltersFile (limits stages samples) (now (recipe .entry)) (now (still .entry)) (now (work .entry)) (now (work .exit)) (now (rows .entry)) (now (rows .exit)) (now (sums .entry)) (now (sums .exit)) (now (out .entry)) (now (out .exit)) (now (result .entry)) (now (result .exit)) r ⌝ }
+{
+    told::file(
+        file_filter::filter_file(
+            recipe,
+            still,
+            Limits { stages, samples },
+            work,
+            rows,
+            sums,
+            out,
+        ),
         result,
     )
 }

@@ -23,6 +23,7 @@ use Rattle.recipe_bytes.proofs.ByteLaws.{bytes-drop}
 use Rattle.recipe.specs.Recipe.{recipeStages}
 use Rattle.recipe.proofs.Accepted.{recipe-sound}
 use Rattle.room.specs.Room.{lent}
+use Rattle.filter_answers.specs.declared.Limits.{Limits}
 use Rattle.filter_answers.specs.FileAnswer.{fileSize, fileAnswer}
 use Rattle.filter_answers.proofs.FileAccepted.{FileAccepted, file-accepted}
 use Rattle.raster_filter.specs.FilteredRaster.{filteredRaster}
@@ -43,20 +44,20 @@ module _ (W H : ℕ) (ts : List Stage) (sound : Sound ts) {T : ℕ} (e : toleran
 
 -- ---- what the call ensures, by its answer
 
-module _ (recipe still work : List ℕ) (rows : List ℤ) (sums out : List ℕ) (answer : File) (e : answer ≡ fileAnswer recipe still (lent (length work) (length rows) (length sums) (length out))) where
+module _ (m : Limits) (recipe still work : List ℕ) (rows : List ℤ) (sums out : List ℕ) (answer : File) (e : answer ≡ fileAnswer m recipe still (lent (length work) (length rows) (length sums) (length out))) where
   -- a refusal leaves all as it was
-  pub file-refuses : {n : ℕ} → answer ≡ Refused n → FiltersFile recipe still work work rows rows sums sums out out answer
+  pub file-refuses : {n : ℕ} → answer ≡ Refused n → FiltersFile m recipe still work work rows rows sums sums out out answer
   file-refuses f = record { answered = e; output = rw f; within = rw f tt; work-kept = rw f refl; rows-kept = rw f refl; sums-kept = rw f refl }
 
   module _ {W H c T n : ℕ} (f : answer ≡ Picture W H c T n) where
     -- what an answer with a picture has shown
     pub file-shown : FileAccepted recipe still (lent (length work) (length rows) (length sums) (length out)) W H c T n
-    file-shown = file-accepted recipe still (lent (length work) (length rows) (length sums) (length out)) (sym e ∙ f)
+    file-shown = file-accepted m recipe still (lent (length work) (length rows) (length sums) (length out)) (sym e ∙ f)
 
     -- what was written lies within T
     pub file-filters : {work′ : List ℕ} {rows′ : List ℤ} {sums′ out′ : List ℕ} → Bytes recipe → Bytes still
         → out′ ≡ headerBytes W H c ++ (filteredRaster W H c (recipeStages recipe) (drop (length still - W * H * c) still) ++ drop (fileSize W H c) out)
-        → FiltersFile recipe still work work′ rows rows′ sums sums′ out out′ answer
+        → FiltersFile m recipe still work work′ rows rows′ sums sums′ out out′ answer
     file-filters rb sb o =
         let sound = recipe-sound recipe rb (file-shown .suffices .accepted) in
         let raster = drop (length still - W * H * c) still in record {

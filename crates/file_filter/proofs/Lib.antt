@@ -1,2 +1,3 @@
 pub mod FilePromise
 pub mod Behind
+pub mod Alike

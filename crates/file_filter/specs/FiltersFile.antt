@@ -15,6 +15,7 @@ use Rattle.channels.specs.Channel.{channel}
 use Rattle.answers.specs.declared.File.{File}
 use Rattle.answers.specs.declared.File.the-variants.{Refused, Picture}
 use Rattle.room.specs.Room.{lent, Kept}
+use Rattle.filter_answers.specs.declared.Limits.{Limits}
 use Rattle.filter_answers.specs.FileAnswer.{samplesOf, fileAnswer}
 use Rattle.raster_filter.specs.FilteredRaster.{filteredRaster}
 
@@ -35,9 +36,9 @@ FileWithin (Picture W H c T n) ts raster out =
     (k u v : ℕ) → k < c → u < W → v < H
     → Within T (exactDenominator ts) (getD out (length (headerBytes W H c) + ((v * W + u) * c + k)) 0) (getD (exact W H ts (channel c (W * H) raster k)) (v * W + u) 0)
 
--- what `filter_file` ensures
-pub record FiltersFile (recipe still work work′ : List ℕ) (rows rows′ : List ℤ) (sums sums′ out out′ : List ℕ) (answer : File) : Type 0 where
-  pub answered : answer ≡ fileAnswer recipe still (lent (length work) (length rows) (length sums) (length out))
+-- what `filter_file` ensures to a caller with limits m
+pub record FiltersFile (m : Limits) (recipe still work work′ : List ℕ) (rows rows′ : List ℤ) (sums sums′ out out′ : List ℕ) (answer : File) : Type 0 where
+  pub answered : answer ≡ fileAnswer m recipe still (lent (length work) (length rows) (length sums) (length out))
   pub output : out′ ≡ fileOutput answer (recipeStages recipe) (samplesOf (stillOf still) still) out
   pub within : FileWithin answer (recipeStages recipe) (samplesOf (stillOf still) still) out′
   pub work-kept : Kept (refused answer) work work′

@@ -1,5 +1,6 @@
 // Filter a file: each channel of a still by itself.
 use answers::File;
+use filter_answers::Limits;
 use room::Lent;
 ghost use mathlib.Core.Path.{_≡_};
 ghost use mathlib.Core.List.{_++_};
@@ -42,16 +43,17 @@ fn run(
     );
 }
 
-// Filter a file: the picture's size, T and how many bytes were written, or the recipe's refusal, the still's, or 20.
+// Filter a file for a caller with limits: the picture's size, T and how many bytes were written, or the recipe's refusal, 28, the still's, 29, or 20.
 pub fn filter_file(
     recipe: &[u8],
     still: &[u8],
+    limits: Limits,
     work: &mut [u8],
     rows: &mut [i32],
     sums: &mut [u32],
     out: &mut [u8],
 ) -> File
-    ensures { λ r. ⌜ FiltersFile (now (recipe .entry)) (now (still .entry)) (now (work .entry)) (now (work .exit)) (now (rows .entry)) (now (rows .exit)) (now (sums .entry)) (now (sums .exit)) (now (out .entry)) (now (out .exit)) r ⌝ }
+    ensures { λ r. ⌜ FiltersFile limits (now (recipe .entry)) (now (still .entry)) (now (work .entry)) (now (work .exit)) (now (rows .entry)) (now (rows .exit)) (now (sums .entry)) (now (sums .exit)) (now (out .entry)) (now (out .exit)) r ⌝ }
 {
     let lent = Lent {
         works: work.len(),
@@ -59,7 +61,7 @@ pub fn filter_file(
         sums: sums.len(),
         out: out.len(),
     };
-    let answer = filter_answers::file_answer(recipe, still, lent);
+    let answer = filter_answers::file_answer(recipe, still, limits, lent);
     match answer {
         File::Refused(_) => {}
         File::Picture {

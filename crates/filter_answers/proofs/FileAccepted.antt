@@ -1,14 +1,15 @@
 -- A file's answer, and what one that is no refusal has shown. Assumes nothing.
-use Prim.Native.Nat.{ℕ, _+_, _*_, _-_, _≤_}
+use Prim.Native.Nat.{ℕ, _+_, _*_, _-_, _≤_, _<_}
 use native.Mathlib.Nat.{mul-pos}
 use native.Mathlib.Omega.{arith}
 use mathlib.Core.Path.{_≡_, refl, sym, ap, _∙_}
 use mathlib.Core.Logic.{⊎-elim}
-use mathlib.Core.List.{List}
+use mathlib.Core.List.{List, [], _∷_, _++_}
 use lib.ListN.{length, drop, length-drop}
-use Rattle.refusals.specs.Refusal.{tested, verdict}
+use borrow.Author.Tests.{leb-true, le-leb, lt-leb}
+use Rattle.refusals.specs.Refusal.{tested, verdict, stageLimit, sampleLimit}
 use Rattle.refusals.specs.declared.Verdict.the-variants as Verdict
-use Rattle.refusals.proofs.Passed.{AllPass, passed, passed-all, passed-whole, refused-whole}
+use Rattle.refusals.proofs.Passed.{AllPass, passed, passed-all, passed-part, refused-part, passed-whole, refused-whole, all-append}
 use Rattle.model.specs.Tolerance.{tolerance}
 use Rattle.answers.specs.declared.Still.{Still}
 use Rattle.answers.specs.declared.Still.the-variants as Still
@@ -23,6 +24,8 @@ use Rattle.answers.specs.declared.File.the-variants as File
 use Rattle.room.specs.declared.Lent.{Lent}
 use Rattle.room.specs.Room.{roomTests, Sufficient}
 use Rattle.room.proofs.Suffices.{suffices}
+use Rattle.filter_answers.specs.declared.Limits.{Limits}
+use Rattle.filter_answers.specs.Limits.{stageTest, sampleTest}
 use Rattle.filter_answers.specs.FileAnswer.{fileSize, samplesOf, stillAnswer, pictureAnswer, Asked, lentTests, fileAnswer}
 
 -- what a still that was read keeps to
@@ -53,53 +56,79 @@ shown still {W} {H} {c} {start} e =
 
 -- ---- whatever is lent
 
-module _ (T : ℕ) {s : Still} where
-  pub still-refused : {n : ℕ} → s ≡ Still.Refused n → stillAnswer T s ≡ File.Refused n
+module _ (m : Limits) (T : ℕ) {s : Still} where
+  pub still-refused : {n : ℕ} → s ≡ Still.Refused n → stillAnswer m T s ≡ File.Refused n
   still-refused e = rw e
 
-  pub still-done : {W H c start : ℕ} → s ≡ Still.Picture W H c start → stillAnswer T s ≡ File.Picture W H c T (fileSize W H c)
-  still-done e = rw e
+  module _ {W H c start : ℕ} (e : s ≡ Still.Picture W H c start) where
+    pub still-limited : m .samples < W * H → stillAnswer m T s ≡ File.Refused sampleLimit
+    still-limited h = rw (e, lt-leb (W * H) (m .samples) h)
 
-module _ (recipe still : List ℕ) where
+    pub still-done : W * H ≤ m .samples → stillAnswer m T s ≡ File.Picture W H c T (fileSize W H c)
+    still-done h = rw (e, le-leb (W * H) (m .samples) h)
+
+module _ (m : Limits) (recipe still : List ℕ) where
   -- a recipe that is refused decides
-  pub picture-refused : {k : ℕ} → recipeOf recipe ≡ Recipe.Refused k → pictureAnswer recipe still ≡ File.Refused k
+  pub picture-refused : {k : ℕ} → recipeOf recipe ≡ Recipe.Refused k → pictureAnswer m recipe still ≡ File.Refused k
   unfolding pictureAnswer recipeOf
-  picture-refused e = refused-whole File.Refused _ (recipeTests recipe) (recipe-refused recipe e)
+  picture-refused e = refused-part File.Refused (stageTest m (recipeStages recipe) ∷ []) _ (recipeTests recipe) (recipe-refused recipe e)
 
-  -- one that is accepted leaves it to the still
-  pub picture-left : verdict (recipeTests recipe) ≡ Verdict.Passed → pictureAnswer recipe still ≡ stillAnswer (tolerance (recipeStages recipe)) (stillOf still)
-  unfolding pictureAnswer
-  picture-left e = passed-whole File.Refused _ (recipeTests recipe) e
+  -- one that is accepted leaves it to the limit
+  module _ (e : verdict (recipeTests recipe) ≡ Verdict.Passed) where
+    pub picture-limited : m .stages < length (recipeStages recipe) → pictureAnswer m recipe still ≡ File.Refused stageLimit
+    unfolding pictureAnswer
+    picture-limited h = passed-part File.Refused (stageTest m (recipeStages recipe) ∷ []) _ (recipeTests recipe) e ∙ rw (lt-leb (length (recipeStages recipe)) (m .stages) h)
 
-  pub picture-read : verdict (recipeTests recipe) ≡ Verdict.Passed → {W H c start : ℕ} → stillOf still ≡ Still.Picture W H c start → pictureAnswer recipe still ≡ File.Picture W H c (tolerance (recipeStages recipe)) (fileSize W H c)
-  picture-read e f = picture-left e ∙ still-done (tolerance (recipeStages recipe)) f
+    -- and one within it to the still
+    module _ (few : length (recipeStages recipe) ≤ m .stages) where
+      pub picture-left : pictureAnswer m recipe still ≡ stillAnswer m (tolerance (recipeStages recipe)) (stillOf still)
+      unfolding pictureAnswer
+      picture-left = passed-part File.Refused (stageTest m (recipeStages recipe) ∷ []) _ (recipeTests recipe) e ∙ rw (le-leb (length (recipeStages recipe)) (m .stages) few)
+
+      pub picture-read : {W H c start : ℕ} → stillOf still ≡ Still.Picture W H c start → W * H ≤ m .samples
+          → pictureAnswer m recipe still ≡ File.Picture W H c (tolerance (recipeStages recipe)) (fileSize W H c)
+      picture-read f h = picture-left ∙ still-done m (tolerance (recipeStages recipe)) f h
 
   -- what an answer with a picture has shown
   pub record Pictured (W H c T n : ℕ) : Type 0 where
     pub accepted : verdict (recipeTests recipe) ≡ Verdict.Passed
+    pub few-stages : length (recipeStages recipe) ≤ m .stages
+    pub few-samples : W * H ≤ m .samples
     pub T-is : tolerance (recipeStages recipe) ≡ T
     pub size-is : fileSize W H c ≡ n
     pub start : ℕ
     pub read : stillOf still ≡ Still.Picture W H c start
 
-  pub pictured : {W H c T n : ℕ} → pictureAnswer recipe still ≡ File.Picture W H c T n → Pictured W H c T n
+  pub pictured : {W H c T n : ℕ} → pictureAnswer m recipe still ≡ File.Picture W H c T n → Pictured W H c T n
   unfolding pictureAnswer
   pictured {W} {H} {c} {T} {n} e =
-      let p = passed File.Refused (recipeTests recipe) (stillAnswer (tolerance (recipeStages recipe)) (stillOf still)) (File.Picture W H c T n) (λ n f. let z : _≡_ {A = ℕ} 0 1 = cc in omega arith) e in
-      by-still (stillOf still) refl (passed-all _ (p .0)) (p .1)
+      let p = passed File.Refused (recipeTests recipe ++ stageTest m (recipeStages recipe) ∷ []) (stillAnswer m (tolerance (recipeStages recipe)) (stillOf still)) (File.Picture W H c T n) (λ n f. let z : _≡_ {A = ℕ} 0 1 = cc in omega arith) e in
+      let q = all-append (recipeTests recipe) (stageTest m (recipeStages recipe) ∷ []) (p .0) in
+      by-still (stillOf still) refl (passed-all _ (q .0)) (leb-true _ _ (q .1 .0)) (p .1)
     where
-      by-still : (s : Still) → stillOf still ≡ s → verdict (recipeTests recipe) ≡ Verdict.Passed → stillAnswer (tolerance (recipeStages recipe)) s ≡ File.Picture W H c T n → Pictured W H c T n
-      by-still (Still.Refused k) f v g = let z : _≡_ {A = ℕ} 0 1 = cc in absurd (omega arith)
-      by-still (Still.Picture W′ H′ c′ start) f v g =
+      by-still : (s : Still) → stillOf still ≡ s → verdict (recipeTests recipe) ≡ Verdict.Passed → length (recipeStages recipe) ≤ m .stages
+          → stillAnswer m (tolerance (recipeStages recipe)) s ≡ File.Picture W H c T n → Pictured W H c T n
+      by-still (Still.Refused k) f v few g = let z : _≡_ {A = ℕ} 0 1 = cc in absurd (omega arith)
+      by-still (Still.Picture W′ H′ c′ start) f v few g =
+          let q = passed File.Refused (sampleTest m W′ H′ ∷ []) (File.Picture W′ H′ c′ (tolerance (recipeStages recipe)) (fileSize W′ H′ c′)) (File.Picture W H c T n) (λ n f. let z : _≡_ {A = ℕ} 0 1 = cc in omega arith) g in
+          let t = q .1 in
           let ew : W′ ≡ W = cc in
           let eh : H′ ≡ H = cc in
           let ec : c′ ≡ c = cc in
           let et : tolerance (recipeStages recipe) ≡ T = cc in
           let en : fileSize W′ H′ c′ ≡ n = cc in
-          record { accepted = v; T-is = et; size-is = rw (sym ew, sym eh, sym ec) en; start = start; read = rw (sym ew, sym eh, sym ec) f }
+          record {
+            accepted = v;
+            few-stages = few;
+            few-samples = rw (sym ew, sym eh) (leb-true _ _ (q .0 .0));
+            T-is = et;
+            size-is = rw (sym ew, sym eh, sym ec) en;
+            start = start;
+            read = rw (sym ew, sym eh, sym ec) f;
+          }
 
   -- so the lent buffers can be tested for it
-  pub answer-asked : (a : File) → pictureAnswer recipe still ≡ a → Asked recipe a
+  pub answer-asked : (a : File) → pictureAnswer m recipe still ≡ a → Asked recipe a
   answer-asked (File.Refused n) e = tt
   answer-asked (File.Picture W H c T n) e =
       let p = pictured e in
@@ -108,12 +137,12 @@ module _ (recipe still : List ℕ) where
 
 -- ---- with what is lent
 
-module _ (recipe still : List ℕ) (l : Lent) {a : File} (e : pictureAnswer recipe still ≡ a) where
-  pub file-refused : {n : ℕ} → verdict (lentTests (recipeStages recipe) l a) ≡ Verdict.Refused n → fileAnswer recipe still l ≡ File.Refused n
+module _ (m : Limits) (recipe still : List ℕ) (l : Lent) {a : File} (e : pictureAnswer m recipe still ≡ a) where
+  pub file-refused : {n : ℕ} → verdict (lentTests (recipeStages recipe) l a) ≡ Verdict.Refused n → fileAnswer m recipe still l ≡ File.Refused n
   unfolding fileAnswer
   file-refused f = rw e (refused-whole File.Refused a (lentTests (recipeStages recipe) l a) f)
 
-  pub file-done : verdict (lentTests (recipeStages recipe) l a) ≡ Verdict.Passed → fileAnswer recipe still l ≡ a
+  pub file-done : verdict (lentTests (recipeStages recipe) l a) ≡ Verdict.Passed → fileAnswer m recipe still l ≡ a
   unfolding fileAnswer
   file-done f = rw e (passed-whole File.Refused a (lentTests (recipeStages recipe) l a) f)
 
@@ -130,11 +159,11 @@ pub record FileAccepted (recipe still : List ℕ) (l : Lent) (W H c T n : ℕ) :
   pub read : stillOf still ≡ Still.Picture W H c start
   pub samples : samplesOf (stillOf still) still ≡ drop (length still - W * H * c) still
 
-module _ (recipe still : List ℕ) (l : Lent) where
+module _ (m : Limits) (recipe still : List ℕ) (l : Lent) where
   -- a picture that has its room
-  pub picture-accepted : {W H c T n : ℕ} → pictureAnswer recipe still ≡ File.Picture W H c T n → AllPass (roomTests W H (recipeStages recipe) n l) → FileAccepted recipe still l W H c T n
+  pub picture-accepted : {W H c T n : ℕ} → pictureAnswer m recipe still ≡ File.Picture W H c T n → AllPass (roomTests W H (recipeStages recipe) n l) → FileAccepted recipe still l W H c T n
   picture-accepted {W} {H} {c} {T} {n} e room =
-      let p = pictured recipe still e in
+      let p = pictured m recipe still e in
       let s = shown still (p .read) in
       let r = suffices W H recipe n l (s .width) (s .height) (p .accepted) room in
       record {
@@ -152,11 +181,11 @@ module _ (recipe still : List ℕ) (l : Lent) where
       starts : (a b k : ℕ) → a + b ≡ k → a ≡ k - b
       starts a b k g = omega (arith, g)
 
-  pub file-accepted : {W H c T n : ℕ} → fileAnswer recipe still l ≡ File.Picture W H c T n → FileAccepted recipe still l W H c T n
+  pub file-accepted : {W H c T n : ℕ} → fileAnswer m recipe still l ≡ File.Picture W H c T n → FileAccepted recipe still l W H c T n
   unfolding fileAnswer
-  file-accepted {W} {H} {c} {T} {n} e = by-answer (pictureAnswer recipe still) refl e
+  file-accepted {W} {H} {c} {T} {n} e = by-answer (pictureAnswer m recipe still) refl e
     where
-      by-answer : (a : File) → pictureAnswer recipe still ≡ a → tested File.Refused (lentTests (recipeStages recipe) l a) a ≡ File.Picture W H c T n → FileAccepted recipe still l W H c T n
+      by-answer : (a : File) → pictureAnswer m recipe still ≡ a → tested File.Refused (lentTests (recipeStages recipe) l a) a ≡ File.Picture W H c T n → FileAccepted recipe still l W H c T n
       by-answer (File.Refused k) f g = let z : _≡_ {A = ℕ} 0 1 = cc in absurd (omega arith)
       by-answer (File.Picture W′ H′ c′ T′ n′) f g =
           let p = passed File.Refused (roomTests W′ H′ (recipeStages recipe) n′ l) (File.Picture W′ H′ c′ T′ n′) (File.Picture W H c T n) (λ n f. let z : _≡_ {A = ℕ} 0 1 = cc in omega arith) g in

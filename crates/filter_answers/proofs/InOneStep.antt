@@ -2,7 +2,7 @@
 use Prim.Native.Nat.{ℕ}
 use mathlib.Core.Path.{_≡_, refl, ap, _∙_}
 use mathlib.Core.Bool.{true, false}
-use mathlib.Core.List.{List, [], _∷_}
+use mathlib.Core.List.{List, [], _∷_, _++_}
 use Rattle.refusals.specs.Refusal.{Test, tested}
 use Rattle.model.specs.Stage.{Stage}
 use Rattle.model.specs.Tolerance.{tolerance}
@@ -14,14 +14,16 @@ use Rattle.answers.specs.declared.File.{File}
 use Rattle.answers.specs.declared.File.the-variants.{Refused, Picture}
 use Rattle.room.specs.declared.Lent.{Lent}
 use Rattle.room.specs.Room.{roomTests}
+use Rattle.filter_answers.specs.declared.Limits.{Limits}
+use Rattle.filter_answers.specs.Limits.{stageTest, sampleTest}
 use Rattle.filter_answers.specs.FileAnswer.{fileSize, stillAnswer, pictureAnswer, lentTests, fileAnswer}
 
--- once the recipe is accepted: the still's refusals, then 20
-abbrev pub stillInOneStep : List Stage → Lent → Still → File
-stillInOneStep ts l (Still.Refused n) = Refused n
-stillInOneStep ts l (Still.Picture W H c start) = tested Refused (roomTests W H ts (fileSize W H c) l) (Picture W H c (tolerance ts) (fileSize W H c))
+-- once the recipe is accepted: the still's refusals, then 29, then 20
+abbrev pub stillInOneStep : Limits → List Stage → Lent → Still → File
+stillInOneStep m ts l (Still.Refused n) = Refused n
+stillInOneStep m ts l (Still.Picture W H c start) = tested Refused (sampleTest m W H ∷ roomTests W H ts (fileSize W H c) l) (Picture W H c (tolerance ts) (fileSize W H c))
 
-module _ (ts : List Stage) (l : Lent) where
+module _ (m : Limits) (ts : List Stage) (l : Lent) where
   -- an answer whose lent buffers are tested
   abbrev lending : File → File
   lending a = tested Refused (lentTests ts l a) a
@@ -32,12 +34,13 @@ module _ (ts : List Stage) (l : Lent) where
   lending-last ((true, n) ∷ xs) a = lending-last xs a
   lending-last ((false, n) ∷ xs) a = refl
 
-  lending-still : (s : Still) → lending (stillAnswer (tolerance ts) s) ≡ stillInOneStep ts l s
+  lending-still : (s : Still) → lending (stillAnswer m (tolerance ts) s) ≡ stillInOneStep m ts l s
   lending-still (Still.Refused n) = refl
-  lending-still (Still.Picture W H c start) = refl
+  lending-still (Still.Picture W H c start) = lending-last (sampleTest m W H ∷ []) (Picture W H c (tolerance ts) (fileSize W H c))
 
-pub same-answer : (recipe still : List ℕ) (l : Lent) → fileAnswer recipe still l ≡ tested Refused (recipeTests recipe) (stillInOneStep (recipeStages recipe) l (stillOf still))
+pub same-answer : (m : Limits) (recipe still : List ℕ) (l : Lent)
+    → fileAnswer m recipe still l ≡ tested Refused (recipeTests recipe ++ stageTest m (recipeStages recipe) ∷ []) (stillInOneStep m (recipeStages recipe) l (stillOf still))
 unfolding fileAnswer pictureAnswer
-same-answer recipe still l =
-    lending-last (recipeStages recipe) l (recipeTests recipe) (stillAnswer (tolerance (recipeStages recipe)) (stillOf still))
-    ∙ ap (tested Refused (recipeTests recipe)) (lending-still (recipeStages recipe) l (stillOf still))
+same-answer m recipe still l =
+    lending-last m (recipeStages recipe) l (recipeTests recipe ++ stageTest m (recipeStages recipe) ∷ []) (stillAnswer m (tolerance (recipeStages recipe)) (stillOf still))
+    ∙ ap (tested Refused (recipeTests recipe ++ stageTest m (recipeStages recipe) ∷ [])) (lending-still m (recipeStages recipe) l (stillOf still))

@@ -1,3 +1,5 @@
 pub mod PlaneAccepted
 pub mod FileAccepted
 pub mod InOneStep
+pub mod Wider
+pub mod NoLimit

@@ -1,7 +1,7 @@
 -- What `filter_file` answers.
 use Prim.Native.Nat.{ℕ, _+_, _*_, _≤_}
 use mathlib.Core.Path.{_≡_}
-use mathlib.Core.List.{List, []}
+use mathlib.Core.List.{List, [], _∷_, _++_}
 use lib.ListN.{length, drop}
 use Rattle.refusals.specs.Refusal.{Test, tested, verdict}
 use Rattle.refusals.specs.declared.Verdict.the-variants.{Passed}
@@ -16,19 +16,21 @@ use Rattle.answers.specs.declared.File.{File}
 use Rattle.answers.specs.declared.File.the-variants.{Refused, Picture}
 use Rattle.room.specs.declared.Lent.{Lent}
 use Rattle.room.specs.Room.{roomTests}
+use Rattle.filter_answers.specs.declared.Limits.{Limits}
+use Rattle.filter_answers.specs.Limits.{stageTest, sampleTest}
 
 -- how many bytes the written file has: its header's, and one for each sample
 unfoldable pub fileSize : ℕ → ℕ → ℕ → ℕ
 fileSize W H c = length (headerBytes W H c) + W * H * c
 
--- the answer to a still by a recipe with this T, whatever is lent: the still's refusal, or its size, T and how many bytes are to be written
-abbrev pub stillAnswer : ℕ → Still → File
-stillAnswer T (Still.Refused n) = Refused n
-stillAnswer T (Still.Picture W H c start) = Picture W H c T (fileSize W H c)
+-- the answer to a still by a recipe with this T, whatever is lent: the still's refusal, or 29, or its size, T and how many bytes are to be written
+abbrev pub stillAnswer : Limits → ℕ → Still → File
+stillAnswer m T (Still.Refused n) = Refused n
+stillAnswer m T (Still.Picture W H c start) = tested Refused (sampleTest m W H ∷ []) (Picture W H c T (fileSize W H c))
 
--- the answer to a recipe and a still, whatever is lent: the recipe's refusals come before the still's
-unfoldable pub pictureAnswer : List ℕ → List ℕ → File
-pictureAnswer recipe still = tested Refused (recipeTests recipe) (stillAnswer (tolerance (recipeStages recipe)) (stillOf still))
+-- the answer to a recipe and a still, whatever is lent: the recipe's refusals come first, then 28, then the still's
+unfoldable pub pictureAnswer : Limits → List ℕ → List ℕ → File
+pictureAnswer m recipe still = tested Refused (recipeTests recipe ++ stageTest m (recipeStages recipe) ∷ []) (stillAnswer m (tolerance (recipeStages recipe)) (stillOf still))
 
 -- what such an answer has shown: a picture's sides keep to their limit, and its recipe is accepted
 abbrev pub Asked : List ℕ → File → Type 0
@@ -40,9 +42,9 @@ abbrev pub lentTests : List Stage → Lent → File → List Test
 lentTests ts l (Refused n) = []
 lentTests ts l (Picture W H c T n) = roomTests W H ts n l
 
--- the answer of `filter_file`: the picture's size, T and the length written, or the first refusal: the recipe's, then the still's, then 20
-unfoldable pub fileAnswer : List ℕ → List ℕ → Lent → File
-fileAnswer recipe still l = tested Refused (lentTests (recipeStages recipe) l (pictureAnswer recipe still)) (pictureAnswer recipe still)
+-- the answer of `filter_file` to a caller with limits m: the picture's size, T and the length written, or the first refusal: the recipe's, 28, the still's, 29, then 20
+unfoldable pub fileAnswer : Limits → List ℕ → List ℕ → Lent → File
+fileAnswer m recipe still l = tested Refused (lentTests (recipeStages recipe) l (pictureAnswer m recipe still)) (pictureAnswer m recipe still)
 
 -- a still's samples
 abbrev pub samplesOf : Still → List ℕ → List ℕ

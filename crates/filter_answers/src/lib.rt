@@ -13,6 +13,24 @@ ghost use Rattle.recipe.specs.Recipe.{recipeTests, recipeStages};
 ghost use Rattle.filter_answers.specs.PlaneAnswer.{planeTests, planeAnswer};
 ghost use Rattle.filter_answers.specs.FileAnswer.{stillAnswer, pictureAnswer, Asked, lentTests, fileAnswer};
 
+// The limits of a caller: how many stages a recipe may have, and how many samples a plane of a still.
+pub struct Limits {
+    pub stages: usize,
+    pub samples: usize,
+}
+
+// The archive's, and those of every call that takes none: no still that is read has more samples.
+pub const ARCHIVE: Limits = Limits {
+    stages: 8,
+    samples: 67108864,
+};
+
+// The bedside panel's.
+pub const PANEL: Limits = Limits {
+    stages: 4,
+    samples: 8192,
+};
+
 // The tests after the recipe's, of an accepted recipe.
 fn plane_tests(recipe: &[u8], w: usize, h: usize, samples: usize, lent: Lent) -> Verdict
     requires { ⌜ verdict (recipeTests (now recipe)) ≡ Passed ⌝ }
@@ -53,9 +71,10 @@ pub fn plane_answer(bytes: &[u8], w: usize, h: usize, samples: usize, lent: Lent
 }
 
 // The answer to a still by a recipe with this tolerance, whatever is lent.
-fn still_answer(tolerance: u64, still: &[u8]) -> File
-    ensures { λ r. ⌜ r ≡ stillAnswer tolerance (stillOf (now (still .entry))) ⌝ }
+fn still_answer(tolerance: u64, still: &[u8], limits: Limits) -> File
+    ensures { λ r. ⌜ r ≡ stillAnswer limits tolerance (stillOf (now (still .entry))) ⌝ }
 {
+    let most = limits.samples;
     match still_reader::read_still(still) {
         Still::Refused(n) => File::Refused(n),
         Still::Picture {
@@ -64,8 +83,12 @@ fn still_answer(tolerance: u64, still: &[u8]) -> File
             channels,
             start: _,
         } => {
+            let size = width * height;
+            if most < size {
+                return File::Refused(refusals::SAMPLE_LIMIT);
+            }
             let head = header_writer::header(width, height, channels);
-            let len = head.len + width * height * channels;
+            let len = head.len + size * channels;
             File::Picture {
                 width,
                 height,
@@ -78,15 +101,18 @@ fn still_answer(tolerance: u64, still: &[u8]) -> File
 }
 
 // The answer to a recipe and a still, whatever is lent.
-pub fn picture_answer(bytes: &[u8], still: &[u8]) -> File
-    ensures { λ r. ⌜ r ≡ pictureAnswer (now (bytes .entry)) (now (still .entry)) ⌝ }
+pub fn picture_answer(bytes: &[u8], still: &[u8], limits: Limits) -> File
+    ensures { λ r. ⌜ r ≡ pictureAnswer limits (now (bytes .entry)) (now (still .entry)) ⌝ }
 {
+    let most = limits.stages;
     match recipe::read_recipe(bytes) {
         Recipe::Refused(n) => File::Refused(n),
-        Recipe::Stages {
-            count: _,
-            tolerance,
-        } => still_answer(tolerance, still),
+        Recipe::Stages { count, tolerance } => {
+            if most < count as usize {
+                return File::Refused(refusals::STAGE_LIMIT);
+            }
+            still_answer(tolerance, still, limits)
+        }
     }
 }
 
@@ -107,11 +133,11 @@ pub fn lent_tests(recipe: &[u8], answer: File, lent: Lent) -> Verdict
     }
 }
 
-// What a call with these buffers answers.
-pub fn file_answer(recipe: &[u8], still: &[u8], lent: Lent) -> File
-    ensures { λ r. ⌜ r ≡ fileAnswer (now (recipe .entry)) (now (still .entry)) lent ⌝ }
+// What a call with these limits and buffers answers.
+pub fn file_answer(recipe: &[u8], still: &[u8], limits: Limits, lent: Lent) -> File
+    ensures { λ r. ⌜ r ≡ fileAnswer limits (now (recipe .entry)) (now (still .entry)) lent ⌝ }
 {
-    let answer = picture_answer(recipe, still);
+    let answer = picture_answer(recipe, still, limits);
     match lent_tests(recipe, answer, lent) {
         Verdict::Refused(n) => File::Refused(n),
         Verdict::Passed => answer,

@@ -10,6 +10,7 @@ use Rattle.refusals.specs.declared.Verdict.the-variants as Verdict
 use Rattle.refusals.proofs.Passed.{passed-whole, refused-whole, verdict-append}
 use Rattle.answers.specs.declared.File.{File}
 use Rattle.answers.specs.declared.File.the-variants as File
+use Rattle.filter_answers.specs.Limits.{archive}
 use Rattle.filter_answers.specs.FileAnswer.{lentTests}
 use Rattle.filter_answers.proofs.FileAccepted.{pictured}
 use Rattle.movement.specs.Order.{sameSize, inOrder}
@@ -51,6 +52,6 @@ module _ (L : ℕ) (a b : Run) where
             → planOf L a b ≡ Runs (record { samples = W * H * c; len = n; tolerance1 = T; tolerance2 = T′ })
         unfolding planOf movementTests inOrder
         plan-done g =
-            let t = pictured (a .recipe) (a .still) e .T-is in
-            let t′ = pictured (b .recipe) (b .still) f .T-is in
+            let t = pictured archive (a .recipe) (a .still) e .T-is in
+            let t′ = pictured archive (b .recipe) (b .still) f .T-is in
             rw (l, e, f) (passed-whole Refused _ (pairTests a b (File.Picture W H c T n) (File.Picture W′ H′ c′ T′ n′)) g ∙ rw (t, t′))

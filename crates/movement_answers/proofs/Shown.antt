@@ -11,10 +11,11 @@ use Rattle.refusals.proofs.Passed.{AllPass, passed, passed-all, passed-whole, r
 use Rattle.answers.specs.declared.File.{File}
 use Rattle.answers.specs.declared.File.the-variants as File
 use Rattle.answers.specs.declared.Movement.the-variants as Movement
-use Rattle.filter_answers.specs.FileAnswer.{fileSize, lentTests, fileAnswer}
+use Rattle.filter_answers.specs.Limits.{archive}
+use Rattle.filter_answers.specs.FileAnswer.{fileSize, lentTests}
 use Rattle.filter_answers.proofs.FileAccepted.{pictured, file-done}
 use Rattle.movement.specs.Order.{inOrder}
-use Rattle.movement_answers.specs.Run.{Run, stages, asked}
+use Rattle.movement_answers.specs.Run.{Run, stages, asked, fileOf}
 use Rattle.movement_answers.specs.MovementAnswer.{movementTests, lengthOf, motionsBetween, counts, movementAnswer}
 use Rattle.movement_answers.specs.declared.Pair.{Pair}
 use Rattle.movement_answers.specs.declared.Plan.{Plan}
@@ -29,8 +30,8 @@ pub record Shown (L : ℕ) (a b : Run) (p : Pair) : Type 0 where
   pub c : ℕ
   pub first : asked a ≡ File.Picture W H c (p .tolerance1) (p .len)
   pub second : asked b ≡ File.Picture W H c (p .tolerance2) (p .len)
-  pub first-fits : fileAnswer (a .recipe) (a .still) (a .lent) ≡ File.Picture W H c (p .tolerance1) (p .len)
-  pub second-fits : fileAnswer (b .recipe) (b .still) (b .lent) ≡ File.Picture W H c (p .tolerance2) (p .len)
+  pub first-fits : fileOf a ≡ File.Picture W H c (p .tolerance1) (p .len)
+  pub second-fits : fileOf b ≡ File.Picture W H c (p .tolerance2) (p .len)
   pub samples-are : p .samples ≡ W * H * c
   pub answer-is : movementAnswer L a b ≡ counts (motionsBetween L a b) a b
 
@@ -44,8 +45,8 @@ module _ (L : ℕ) (a b : Run) where
   by-pictures (File.Refused n) y e f h g = let t : false ≡ true = h .1 .0 in let z : _≡_ {A = ℕ} 0 1 = cc in absurd (omega arith)
   by-pictures (File.Picture W H c T n) (File.Refused m) e f h g = let t : false ≡ true = h .1 .0 in let z : _≡_ {A = ℕ} 0 1 = cc in absurd (omega arith)
   by-pictures (File.Picture W H c T n) (File.Picture W′ H′ c′ T′ n′) e f h g =
-      let r = pictured (a .recipe) (a .still) e in
-      let r′ = pictured (b .recipe) (b .still) f in
+      let r = pictured archive (a .recipe) (a .still) e in
+      let r′ = pictured archive (b .recipe) (b .still) f in
       let same = and-eq-true-iff (eqb W W′ && eqb H H′) (eqb c c′) .0 (h .1 .0) in
       let sides = and-eq-true-iff (eqb W W′) (eqb H H′) .0 (same .0) in
       let lent = all-append (lentTests (stages a) (a .lent) (File.Picture W H c T n)) (lentTests (stages b) (b .lent) (File.Picture W′ H′ c′ T′ n′)) (h .1 .1) in
@@ -63,8 +64,8 @@ module _ (L : ℕ) (a b : Run) where
         c = c;
         first = e;
         second = f ∙ one;
-        first-fits = file-done (a .recipe) (a .still) (a .lent) e (passed-all _ (lent .0));
-        second-fits = file-done (b .recipe) (b .still) (b .lent) f (passed-all _ (lent .1)) ∙ one;
+        first-fits = file-done archive (a .recipe) (a .still) (a .lent) e (passed-all _ (lent .0));
+        second-fits = file-done archive (b .recipe) (b .still) (b .lent) f (passed-all _ (lent .1)) ∙ one;
         samples-are = refl;
         answer-is = g;
       })

@@ -1,4 +1,4 @@
--- One of two runs of the file call: a recipe, a still and what is lent to it.
+-- One of two runs of the file call with the archive's limits: a recipe, a still and what is lent to it.
 use Prim.Native.Nat.{ℕ, _*_}
 use mathlib.Core.List.{List, []}
 use Rattle.model.specs.Stage.{Stage}
@@ -7,7 +7,8 @@ use Rattle.recipe.specs.Recipe.{recipeStages}
 use Rattle.answers.specs.declared.File.{File}
 use Rattle.answers.specs.declared.File.the-variants.{Refused, Picture}
 use Rattle.room.specs.declared.Lent.{Lent}
-use Rattle.filter_answers.specs.FileAnswer.{samplesOf, pictureAnswer}
+use Rattle.filter_answers.specs.Limits.{archive}
+use Rattle.filter_answers.specs.FileAnswer.{samplesOf, pictureAnswer, fileAnswer}
 use Rattle.raster_filter.specs.FilteredRaster.{filteredRaster}
 
 pub record Run : Type 0 where
@@ -28,7 +29,11 @@ samples r = samplesOf (stillOf (r .still)) (r .still)
 
 -- what it comes to, whatever is lent: its picture, or the recipe's refusal, or the still's
 abbrev pub asked : Run → File
-asked r = pictureAnswer (r .recipe) (r .still)
+asked r = pictureAnswer archive (r .recipe) (r .still)
+
+-- its answer, with what is lent
+abbrev pub fileOf : Run → File
+fileOf r = fileAnswer archive (r .recipe) (r .still) (r .lent)
 
 -- a picture's filtered samples, which the file call writes
 abbrev pub rasterOf : File → List Stage → List ℕ → List ℕ

@@ -105,8 +105,8 @@ pub fn planned(
     if 255 < limit {
         return Plan::Refused(refusals::MOVEMENT_LIMIT);
     }
-    let first = filter_answers::picture_answer(recipe1, still1);
-    let second = filter_answers::picture_answer(recipe2, still2);
+    let first = filter_answers::picture_answer(recipe1, still1, filter_answers::ARCHIVE);
+    let second = filter_answers::picture_answer(recipe2, still2, filter_answers::ARCHIVE);
     match first {
         File::Refused(n) => Plan::Refused(n),
         File::Picture {

@@ -19,7 +19,8 @@ use Rattle.recipe.proofs.Accepted.{recipe-sound}
 use Rattle.answers.specs.declared.File.the-variants as File
 use Rattle.answers.specs.declared.Movement.{Movement}
 use Rattle.answers.specs.declared.Movement.the-variants.{Refused}
-use Rattle.filter_answers.specs.FileAnswer.{fileSize, fileAnswer}
+use Rattle.filter_answers.specs.Limits.{archive}
+use Rattle.filter_answers.specs.FileAnswer.{fileSize}
 use Rattle.filter_answers.proofs.FileAccepted.{FileAccepted, file-accepted, shown as still-shown}
 use Rattle.raster_filter.specs.FilteredRaster.{filteredRaster}
 use Rattle.raster_filter.proofs.FilteredLaws.{filtered-length}
@@ -32,7 +33,7 @@ use Rattle.movement_laws.proofs.Counting.{counts-add-up, motions-length, motion
 use Rattle.room.specs.declared.Lent.{Lent}
 use Rattle.movement_answers.specs.declared.Pair.{Pair}
 use Rattle.movement_answers.specs.declared.Plan.{Plan}
-use Rattle.movement_answers.specs.Run.{Run, run, stages, samples, filtered}
+use Rattle.movement_answers.specs.Run.{Run, run, stages, samples, fileOf, filtered}
 use Rattle.movement_answers.specs.Plan.{planOf}
 use Rattle.movement_answers.specs.MovementAnswer.{motionsBetween, movementAnswer}
 use Rattle.movement_answers.proofs.Shown.{Shown}
@@ -49,9 +50,9 @@ sample-fits W H c k u v bk bu bv = place-fits k (v * W + u) c (W * H) bk (rw (mu
 
 -- ---- a run that has its picture and its room
 
-module _ (r : Run) {W H c T n : ℕ} (e : fileAnswer (r .recipe) (r .still) (r .lent) ≡ File.Picture W H c T n) where
+module _ (r : Run) {W H c T n : ℕ} (e : fileOf r ≡ File.Picture W H c T n) where
   accepted : FileAccepted (r .recipe) (r .still) (r .lent) W H c T n
-  accepted = file-accepted (r .recipe) (r .still) (r .lent) e
+  accepted = file-accepted archive (r .recipe) (r .still) (r .lent) e
 
   tolerance-is : tolerance (stages r) ≡ T
   tolerance-is = accepted .T-is
@@ -76,11 +77,11 @@ module _ (r : Run) {W H c T n : ℕ} (e : fileAnswer (r .recipe) (r .still) (r .
 -- ---- the same once the file call has run, and the output that it left
 
 record Ran (r : Run) (W H c T n : ℕ) (out out′ : List ℕ) : Type 0 where
-  answer : fileAnswer (r .recipe) (r .still) (r .lent) ≡ File.Picture W H c T n
+  answer : fileOf r ≡ File.Picture W H c T n
   output : out′ ≡ headerBytes W H c ++ (filteredRaster W H c (stages r) (samples r) ++ drop n out)
   within : FileWithin (File.Picture W H c T n) (stages r) (samples r) out′
 
-ran : (r : Run) {out out′ : List ℕ} {W H c T n : ℕ} → fileAnswer (r .recipe) (r .still) (r .lent) ≡ File.Picture W H c T n → Leaves r out out′ → Ran r W H c T n out out′
+ran : (r : Run) {out out′ : List ℕ} {W H c T n : ℕ} → fileOf r ≡ File.Picture W H c T n → Leaves r out out′ → Ran r W H c T n out out′
 ran r e l = record { answer = e; output = rw e at (l .output); within = rw e at (l .within) }
 
 module _ {r : Run} {W H c T n : ℕ} {out out′ : List ℕ} (h : Ran r W H c T n out out′) where

@@ -13,12 +13,11 @@ use Rattle.answers.specs.declared.File.the-variants as File
 use Rattle.answers.specs.declared.Movement.{Movement}
 use Rattle.answers.specs.declared.Movement.the-variants.{Refused, Counts}
 use Rattle.room.specs.Room.{Kept}
-use Rattle.filter_answers.specs.FileAnswer.{fileAnswer}
 use Rattle.file_filter.specs.FiltersFile.{fileOutput}
 use Rattle.movement.specs.Motion.{Motion, unsettled}
 use Rattle.movement.specs.Motions.{motions, Counted}
 use Rattle.movement.specs.Truth.{TrueOf}
-use Rattle.movement_answers.specs.Run.{Run, stages, samples, asked}
+use Rattle.movement_answers.specs.Run.{Run, stages, samples, asked, fileOf}
 use Rattle.movement_answers.specs.MovementAnswer.{motionsBetween, movementAnswer}
 use Rattle.movement_runs.specs.RunsBoth.{rasterIn}
 
@@ -30,7 +29,7 @@ refused (Counts m s o T T′ n) = false
 -- the output of a run after an answer: as before a refusal, else as the file call leaves it
 abbrev pub outputAfter : Movement → Run → List ℕ → List ℕ
 outputAfter (Refused n) r out = out
-outputAfter (Counts m s o T T′ n) r out = fileOutput (fileAnswer (r .recipe) (r .still) (r .lent)) (stages r) (samples r) out
+outputAfter (Counts m s o T T′ n) r out = fileOutput (fileOf r) (stages r) (samples r) out
 
 -- the exact sample of channel k at column u and row v, as a numerator
 abbrev pub exactSample : Run → ℕ → ℕ → ℕ → ℕ → ℕ → ℕ → ℕ

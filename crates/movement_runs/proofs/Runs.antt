@@ -8,6 +8,7 @@ use lib.IntN.{ℤ}
 use Rattle.answers.specs.declared.File.{File}
 use Rattle.answers.specs.declared.Movement.the-variants.{Counts}
 use Rattle.room.specs.Room.{lent}
+use Rattle.filter_answers.specs.Limits.{archive}
 use Rattle.filter_answers.specs.FileAnswer.{fileAnswer}
 use Rattle.file_filter.specs.FiltersFile.{FiltersFile}
 use Rattle.movement.specs.Motions.{motions, Counted}
@@ -20,10 +21,10 @@ same-lent e f g = rw (e, f, g)
 
 -- a run on buffers of the lengths that count
 pub leaves : (r : Run) {work work′ : List ℕ} {rows rows′ : List ℤ} {sums sums′ out out′ : List ℕ} {answer : File}
-    → FiltersFile (r .recipe) (r .still) work work′ rows rows′ sums sums′ out out′ answer
+    → FiltersFile archive (r .recipe) (r .still) work work′ rows rows′ sums sums′ out out′ answer
     → lent (length work) (length rows) (length sums) (length out) ≡ r .lent → Leaves r out out′
 leaves r f e =
-    let h = f .answered ∙ ap (fileAnswer (r .recipe) (r .still)) e in
+    let h = f .answered ∙ ap (fileAnswer archive (r .recipe) (r .still)) e in
     record { output = rw h at (f .output); within = rw h at (f .within) }
 
 -- the k samples that end two files

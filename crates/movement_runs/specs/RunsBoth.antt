@@ -7,11 +7,10 @@ use lib.IntN.{ℤ}
 use Rattle.answers.specs.declared.Movement.{Movement}
 use Rattle.answers.specs.declared.Movement.the-variants.{Counts}
 use Rattle.room.specs.Room.{lent}
-use Rattle.filter_answers.specs.FileAnswer.{fileAnswer}
 use Rattle.file_filter.specs.FiltersFile.{fileOutput, FileWithin}
 use Rattle.movement.specs.Motions.{motions, movedCount, stillCount, openCount}
 use Rattle.movement_answers.specs.declared.Pair.{Pair}
-use Rattle.movement_answers.specs.Run.{Run, run, stages, samples}
+use Rattle.movement_answers.specs.Run.{Run, run, stages, samples, fileOf}
 
 -- a run over these lent buffers
 abbrev pub runOn : List ℕ → List ℕ → List ℕ → List ℤ → List ℕ → List ℕ → Run
@@ -19,8 +18,8 @@ runOn recipe still work rows sums out = run recipe still (lent (length work) (le
 
 -- an output after a run: as the file call leaves it, and each written sample within T of the exact one
 pub record Leaves (r : Run) (out out′ : List ℕ) : Type 0 where
-  pub output : out′ ≡ fileOutput (fileAnswer (r .recipe) (r .still) (r .lent)) (stages r) (samples r) out
-  pub within : FileWithin (fileAnswer (r .recipe) (r .still) (r .lent)) (stages r) (samples r) out′
+  pub output : out′ ≡ fileOutput (fileOf r) (stages r) (samples r) out
+  pub within : FileWithin (fileOf r) (stages r) (samples r) out′
 
 -- the n samples of a file from a place on
 abbrev pub rasterIn : ℕ → ℕ → List ℕ → List ℕ

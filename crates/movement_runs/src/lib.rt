@@ -46,7 +46,23 @@ pub fn run(
     requires { ⌜ Countable limit pair (length (now out1)) (length (now out2)) ⌝ }
     ensures { λ r. ⌜ RunsBoth limit (runOn (now (recipe1 .entry)) (now (still1 .entry)) (now (work .entry)) (now (rows .entry)) (now (sums .entry)) (now (out1 .entry))) (runOn (now (recipe2 .entry)) (now (still2 .entry)) (now (work .entry)) (now (rows .entry)) (now (sums .entry)) (now (out2 .entry))) pair (now (out1 .entry)) (now (out1 .exit)) (now (out2 .entry)) (now (out2 .exit)) r ⌝ }
 {
-    file_filter::filter_file(recipe1, still1, work, rows, sums, out1);
-    file_filter::filter_file(recipe2, still2, work, rows, sums, out2);
+    file_filter::filter_file(
+        recipe1,
+        still1,
+        filter_answers::ARCHIVE,
+        work,
+        rows,
+        sums,
+        out1,
+    );
+    file_filter::filter_file(
+        recipe2,
+        still2,
+        filter_answers::ARCHIVE,
+        work,
+        rows,
+        sums,
+        out2,
+    );
     counted(limit, pair, out1, out2)
 }

@@ -12,6 +12,7 @@ use Rattle.header_writer.specs.Heading.{headerBytes}
 use Rattle.recipe.specs.Recipe.{recipeStages}
 use Rattle.room.specs.declared.Lent.{Lent}
 use Rattle.room.specs.Room.{lent}
+use Rattle.filter_answers.specs.Limits.{archive}
 use Rattle.filter_answers.specs.FileAnswer.{samplesOf, fileAnswer}
 use Rattle.raster_filter.specs.FilteredRaster.{filteredRaster}
 use Rattle.file_filter.specs.FiltersFile.{refused, FileWithin}
@@ -20,9 +21,9 @@ use Rattle.file_filter.specs.FiltersFile.{refused, FileWithin}
 abbrev pub programLent : Lent
 programLent = lent 32768 16384 16384 65536
 
--- what the program answers to a still and a recipe that could be read
+-- what the program answers to a still and a recipe that could be read, with the archive's limits
 unfoldable pub programAnswer : List ℕ → List ℕ → File
-programAnswer recipe still = fileAnswer recipe still programLent
+programAnswer recipe still = fileAnswer archive recipe still programLent
 
 -- how many bytes of the output are saved after an answer, and which: the header and the filtered raster
 abbrev pub savedLength : File → ℕ

@@ -9,5 +9,13 @@ pub fn filter_still(recipe: &[u8], still: &[u8], out: &mut [u8; 65536]) -> File
     let mut work = [0u8; 32768];
     let mut rows = [0i32; 16384];
     let mut sums = [0u32; 16384];
-    file_filter::filter_file(recipe, still, &mut work, &mut rows, &mut sums, out)
+    file_filter::filter_file(
+        recipe,
+        still,
+        filter_answers::ARCHIVE,
+        &mut work,
+        &mut rows,
+        &mut sums,
+        out,
+    )
 }

@@ -84,6 +84,13 @@ sizesDiffer = 26
 abbrev pub movementLimit : ℕ
 movementLimit = 27
 
+-- 28 and 29, of a caller's limits: more stages than it takes · more samples a plane
+abbrev pub stageLimit : ℕ
+stageLimit = 28
+
+abbrev pub sampleLimit : ℕ
+sampleLimit = 29
+
 -- what must hold, and the refusal where it does not
 abbrev pub Test : Type 0
 Test = Bool × ℕ

@@ -56,6 +56,11 @@ pub const SIZES_DIFFER: u8 = 26;
 
 pub const MOVEMENT_LIMIT: u8 = 27;
 
+// A caller's limits.
+pub const STAGE_LIMIT: u8 = 28;
+
+pub const SAMPLE_LIMIT: u8 = 29;
+
 // What a run of tests finds: the refusal of the first that fails, or that all pass.
 pub enum Verdict {
     Refused(u8),

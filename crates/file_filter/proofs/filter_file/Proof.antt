@@ -19,13 +19,13 @@ enum-known-answer c = search needs
 run-requires : tie.Need-run-requires
 run-requires c κs =
     let a = c .before .before .before .before .before .before .before .before .before .before .before .before .before .args in
-    let p = file-shown (now (a .recipe)) (now (a .still)) (now (a .work)) (now (a .rows)) (now (a .sums)) (now (a .out)) _ (c .before .before .before .before .before .before .before .file-answer .ensures) (c .before .before .before .before .before .answer .given .1) in
+    let p = file-shown (a .limits) (now (a .recipe)) (now (a .still)) (now (a .work)) (now (a .rows)) (now (a .sums)) (now (a .out)) _ (c .before .before .before .before .before .before .before .file-answer .ensures) (c .before .before .before .before .before .answer .given .1) in
     (p .suffices, p .channels .0, p .channels .1, p .raster, p .output)
 
 returns : tie.Need-returns
 returns c =
     let a = c .before .before .before .before .before .before .before .before .args in
-    file-refuses (now (a .recipe)) (now (a .still)) (now (a .work)) (now (a .rows)) (now (a .sums)) (now (a .out)) _ (c .before .before .file-answer .ensures) (c .enum-told .given .1)
+    file-refuses (a .limits) (now (a .recipe)) (now (a .still)) (now (a .work)) (now (a .rows)) (now (a .sums)) (now (a .out)) _ (c .before .before .file-answer .ensures) (c .enum-told .given .1)
 
 same-length : tie.Need-same-length
 same-length c = search needs
@@ -42,7 +42,7 @@ same-length-4 c = search needs
 returns-2 : tie.Need-returns-2
 returns-2 c =
     let a = c .before .before .before .before .before .before .before .before .before .before .before .before .before .before .before .before .before .before .before .before .before .args in
-    file-filters (now (a .recipe)) (now (a .still)) (now (a .work)) (now (a .rows)) (now (a .sums)) (now (a .out)) _ (sym (c .before .before .before .before .before .before .before .before .before .before .before .before .before .answer .given .1) ∙ c .before .before .before .before .before .before .before .before .before .before .before .before .before .before .before .file-answer .ensures) refl
+    file-filters (a .limits) (now (a .recipe)) (now (a .still)) (now (a .work)) (now (a .rows)) (now (a .sums)) (now (a .out)) _ (sym (c .before .before .before .before .before .before .before .before .before .before .before .before .before .answer .given .1) ∙ c .before .before .before .before .before .before .before .before .before .before .before .before .before .before .before .file-answer .ensures) refl
     (λ i. omega (arith, c .before .before .before .before .before .before .before .before .before .before .before .before .before .before .before .before .before .before .before .before .shared-slice-known .given i .fits)) (λ i. omega (arith, c .before .before .before .before .before .before .before .before .before .before .before .before .before .before .before .before .before .before .before .shared-slice-known2 .given i .fits)) (c .before .before .before .before .before .before .before .run .ensures)
 
 pub filter-file-spec : {M : Type 1} → statement M

@@ -12,7 +12,7 @@ picture-answer-requires c κs = search needs
 lent-tests-requires : tie.Need-lent-tests-requires
 lent-tests-requires c κs =
     let a = c .before .before .before .args in
-    answer-asked (now (a .recipe)) (now (a .still)) _ (sym (c .picture-answer .ensures))
+    answer-asked (a .limits) (now (a .recipe)) (now (a .still)) _ (sym (c .picture-answer .ensures))
 
 enum-known-n : tie.Need-enum-known-n
 enum-known-n c = search needs
@@ -23,12 +23,12 @@ enum-told c = search needs
 returns : tie.Need-returns
 returns c =
     let a = c .before .before .before .before .before .before .before .args in
-    sym (file-refused (now (a .recipe)) (now (a .still)) (a .lent) (sym (c .before .before .before .before .picture-answer .ensures)) (sym (c .before .before .before .lent-tests .ensures) ∙ c .before .n .given .1))
+    sym (file-refused (a .limits) (now (a .recipe)) (now (a .still)) (a .lent) (sym (c .before .before .before .before .picture-answer .ensures)) (sym (c .before .before .before .lent-tests .ensures) ∙ c .before .n .given .1))
 
 returns-2 : tie.Need-returns-2
 returns-2 c =
     let a = c .before .before .before .before .before .before .args in
-    sym (file-done (now (a .recipe)) (now (a .still)) (a .lent) (sym (c .before .before .before .picture-answer .ensures)) (sym (c .before .before .lent-tests .ensures) ∙ c .enum-told .given .1))
+    sym (file-done (a .limits) (now (a .recipe)) (now (a .still)) (a .lent) (sym (c .before .before .before .picture-answer .ensures)) (sym (c .before .before .lent-tests .ensures) ∙ c .enum-told .given .1))
 
 pub file-answer-spec : {M : Type 1} → statement M
 file-answer-spec =

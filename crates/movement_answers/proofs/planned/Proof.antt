@@ -3,6 +3,7 @@ use native.Mathlib.Omega.{arith}
 use mathlib.Core.Path.{sym, _∙_}
 use denote.Ref.{now}
 use borrow.Author.Tests.{le-leb, lt-leb}
+use Rattle.filter_answers.specs.Limits.{archive}
 use Rattle.filter_answers.proofs.FileAccepted.{shown, pictured, answer-asked}
 use Rattle.movement_answers.specs.Run.{run}
 use Rattle.movement_answers.proofs.Plans.{plan-limit, plan-first, plan-second, plan-refused, plan-done}
@@ -34,7 +35,7 @@ enum-known-second-2 c = search needs
 pair-tests-requires : tie.Need-pair-tests-requires
 pair-tests-requires c κs =
     let a = c .before .before .before .before .before .before .before .before .before .before .before .before .before .args in
-    (answer-asked (now (a .recipe1)) (now (a .still1)) _ (sym (c .before .before .before .before .before .before .before .picture-answer .ensures) ∙ c .before .before .before .before .first2 .given .1), answer-asked (now (a .recipe2)) (now (a .still2)) _ (sym (c .before .before .before .before .before .before .picture-answer2 .ensures) ∙ c .before .second2 .given .1))
+    (answer-asked archive (now (a .recipe1)) (now (a .still1)) _ (sym (c .before .before .before .before .before .before .before .picture-answer .ensures) ∙ c .before .before .before .before .first2 .given .1), answer-asked archive (now (a .recipe2)) (now (a .still2)) _ (sym (c .before .before .before .before .before .before .picture-answer2 .ensures) ∙ c .before .second2 .given .1))
 
 enum-known-n : tie.Need-enum-known-n
 enum-known-n c = search needs
@@ -45,13 +46,13 @@ enum-told c = search needs
 mul-runs : tie.Need-mul-runs
 mul-runs c =
     let a = c .before .before .before .before .before .before .before .before .before .before .before .before .before .before .before .before .args in
-    let p = pictured (now (a .recipe1)) (now (a .still1)) (sym (c .before .before .before .before .before .before .before .before .before .before .picture-answer .ensures) ∙ c .before .before .before .before .before .before .before .first2 .given .1) in
+    let p = pictured archive (now (a .recipe1)) (now (a .still1)) (sym (c .before .before .before .before .before .before .before .before .before .before .picture-answer .ensures) ∙ c .before .before .before .before .before .before .before .first2 .given .1) in
     record { fits = omega (arith, shown (now (a .still1)) (p .read) .plane-small) }
 
 mul-runs-2 : tie.Need-mul-runs-2
 mul-runs-2 c =
     let a = c .before .before .before .before .before .before .before .before .before .before .before .before .before .before .before .before .args in
-    let p = pictured (now (a .recipe1)) (now (a .still1)) (sym (c .before .before .before .before .before .before .before .before .before .before .picture-answer .ensures) ∙ c .before .before .before .before .before .before .before .first2 .given .1) in
+    let p = pictured archive (now (a .recipe1)) (now (a .still1)) (sym (c .before .before .before .before .before .before .before .before .before .before .picture-answer .ensures) ∙ c .before .before .before .before .before .before .before .first2 .given .1) in
     record { fits = omega (arith, shown (now (a .still1)) (p .read) .raster-small) }
 
 runs-requires : tie.Need-runs-requires
