@@ -69,7 +69,11 @@ enum hejslopi_refusal {
 
     /* the movement */
     HEJSLOPI_SIZES_DIFFER = 26,
-    HEJSLOPI_MOVEMENT_LIMIT = 27
+    HEJSLOPI_MOVEMENT_LIMIT = 27,
+
+    /* the caller's limits */
+    HEJSLOPI_STAGE_LIMIT = 28,
+    HEJSLOPI_SAMPLE_LIMIT = 29
 };
 
 /* What a returned number means: "done" for 0, "unknown" for one that is no refusal's. */
@@ -101,6 +105,8 @@ static inline const char *hejslopi_meaning(uint32_t number)
     case HEJSLOPI_BACKGROUND_FULL: return "a thousand stills are already held";
     case HEJSLOPI_SIZES_DIFFER: return "the two stills have different sizes or channels";
     case HEJSLOPI_MOVEMENT_LIMIT: return "the movement limit is over 255";
+    case HEJSLOPI_STAGE_LIMIT: return "the recipe has more stages than the caller's limit";
+    case HEJSLOPI_SAMPLE_LIMIT: return "the still has more samples a plane, width times height, than the caller's limit";
     default: return "unknown";
     }
 }
@@ -116,6 +122,13 @@ static inline const char *hejslopi_meaning(uint32_t number)
 #define HEJSLOPI_FILE_ANY(w, h, channels) ((size_t)17 + (size_t)(w) * (h) * (channels))
 #define HEJSLOPI_BACKGROUND_RASTERS(w, h, channels, k) ((size_t)(w) * (h) * (channels) * (k))
 #define HEJSLOPI_BACKGROUND_LABELS(k) ((size_t)2 * (k))
+
+/* The limits of two callers of hejslopi_filter_file_limited: how many stages a recipe may have, and how many samples a plane (width * height).
+ * The archive's are those of every other call. They are no limits: no recipe that is accepted has more stages, no still more samples. */
+#define HEJSLOPI_ARCHIVE_STAGES ((size_t)8)
+#define HEJSLOPI_ARCHIVE_SAMPLES ((size_t)67108864)
+#define HEJSLOPI_PANEL_STAGES ((size_t)4)
+#define HEJSLOPI_PANEL_SAMPLES ((size_t)8192)
 
 /* Read a still, a whole P5 or P6 file.
  * result: width, height, channels (1 or 3), and at which index of `bytes` the raster begins.
@@ -159,6 +172,17 @@ uint32_t hejslopi_filter_file(const uint8_t *recipe, size_t recipe_len,
                               int32_t *rows, size_t rows_len,
                               uint32_t *sums, size_t sums_len,
                               uint8_t *out, size_t out_len, uint64_t result[5]);
+
+/* The same for a caller with limits: `stages` is how many stages a recipe may have at most, `samples` how many samples a plane of the still (width * height,
+ * however many channels there are). What is accepted gives the result and the output of hejslopi_filter_file with the same lent buffers.
+ * Refusals: 10 to 18, then 28, then 1 to 6, then 29, then 20. */
+uint32_t hejslopi_filter_file_limited(const uint8_t *recipe, size_t recipe_len,
+                                      const uint8_t *still, size_t still_len,
+                                      size_t stages, size_t samples,
+                                      uint8_t *work, size_t work_len,
+                                      int32_t *rows, size_t rows_len,
+                                      uint32_t *sums, size_t sums_len,
+                                      uint8_t *out, size_t out_len, uint64_t result[5]);
 
 /* Filter two stills of one size, each by its own recipe, and count the movement between them under a limit of 0 to 255 levels,
  * over all samples of all channels. With d for the difference of two written samples of one place, T1 and T2 for the tolerances:

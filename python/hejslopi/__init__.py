@@ -12,7 +12,7 @@ The library is made once by `rt staticlib capi` at the top of the repository, an
 it. HEJSLOPI_LIB_DIR may name another folder of libcapi.a.
 """
 from .background import Background, Mean
-from .calls import FilteredFile, FilteredPlane, Recipe, Still, filter_file, filter_plane, read_recipe, read_still, sums_needed, write_still
+from .calls import ARCHIVE, PANEL, FilteredFile, FilteredPlane, Limits, Recipe, Still, filter_file, filter_plane, read_recipe, read_still, sums_needed, write_still
 from .describing import describe
 from .descriptions import recipe
 from .explaining import explain
@@ -26,6 +26,6 @@ from .version import VERSION
 __version__ = VERSION
 
 __all__ = [
-    "Background", "FilteredFile", "FilteredPlane", "LibraryError", "MEANINGS", "Mean", "Mistake", "Movement", "Recipe", "Refusal", "Still",
+    "ARCHIVE", "Background", "FilteredFile", "FilteredPlane", "LibraryError", "Limits", "MEANINGS", "Mean", "Mistake", "Movement", "PANEL", "Recipe", "Refusal", "Still",
     "describe", "explain", "filter_file", "filter_plane", "movement", "movement_picture", "read_recipe", "read_still", "recipe", "sums_needed", "write_still",
 ]

@@ -15,6 +15,7 @@ BytesLike = Union[bytes, bytearray, memoryview]
 
 MOST_SIDE = 8192
 MOST_WORD = (1 << 32) - 1
+ROOM, STAGE_LIMIT, SAMPLE_LIMIT = 20, 28, 29
 
 
 class Still(NamedTuple):
@@ -41,6 +42,18 @@ class FilteredPlane(NamedTuple):
     """A filtered plane, and T in 65,536ths of a grey level."""
     samples: bytes
     tolerance: int
+
+
+class Limits(NamedTuple):
+    """How many stages a recipe may have, and how many samples a plane of a still: width times height, however many channels there are."""
+    stages: int
+    samples: int
+
+
+# The archive's, and those of every call that takes none: no recipe that is accepted has more stages, and no still more samples.
+ARCHIVE = Limits(8, MOST_SIDE * MOST_SIDE)
+# The bedside panel's.
+PANEL = Limits(4, 8192)
 
 
 # ---- what is handed on
@@ -81,6 +94,23 @@ def word(name: str, given: int) -> int:
     if not 0 <= number <= MOST_WORD:
         raise ValueError(found(name, shown(number), "0 to %s" % format(MOST_WORD, ",")))
     return number
+
+
+def limit_for(name: str, given: int, allowed: str) -> int:
+    """A limit for the library. One that no machine word holds is as far above all that there is as the largest that one does, which is handed on in its place."""
+    number = whole(name, given)
+    if number < 0:
+        raise ValueError(found(name, shown(number), allowed))
+    return min(number, (1 << 64) - 1)
+
+
+def limits_for(given: Tuple[int, int]) -> Limits:
+    """A caller's limits for the library."""
+    if not isinstance(given, (tuple, list)):
+        raise TypeError("limits: a pair of stages and samples is needed, and this is of type %s" % type(given).__name__)
+    if len(given) != 2:
+        raise ValueError(found("limits", "%d numbers" % len(given), "a pair of stages and samples"))
+    return Limits(*(limit_for("limits, " + name, number, "0 or more") for name, number in zip(Limits._fields, given)))
 
 
 def results(count: int) -> Any:
@@ -170,11 +200,30 @@ def filter_plane(plane: BytesLike, width: int, height: int, recipe: BytesLike) -
     return FilteredPlane(bytes(out), result[0])
 
 
-def filter_file(still: BytesLike, recipe: BytesLike) -> FilteredFile:
-    """A still, as a file's bytes, filtered by a recipe: the filtered still, as a file's bytes, and the tolerance T."""
-    still, recipe = taken("still", still), taken("recipe", recipe)
-    read_recipe(recipe)
+def over_limits(number: int, recipe: bytes, still: bytes, limits: Limits) -> Refusal:
+    """The refusal of a recipe that is accepted, or of a still that is read, by a caller's limits."""
+    if number == STAGE_LIMIT:
+        return Refusal(number, "found %d, allowed: at most %d" % (recipe[0], limits.stages))
+    width, height = read_still(still)[:2]
+    return Refusal(number, "found %d by %d, which are %d, allowed: at most %d" % (width, height, width * height, limits.samples))
+
+
+def filter_file(still: BytesLike, recipe: BytesLike, limits: Tuple[int, int] = ARCHIVE) -> FilteredFile:
+    """A still, as a file's bytes, filtered by a recipe: the filtered still, as a file's bytes, and the tolerance T.
+
+        picture, T = hejslopi.filter_file(still, recipe, limits=hejslopi.PANEL)
+
+    The limits are how many stages the recipe may have and how many samples a plane of the still, at most. What they let by comes out as without them.
+    """
+    still, recipe, limits = taken("still", still), taken("recipe", recipe), limits_for(limits)
+    run = "hejslopi_filter_file_limited", recipe, still, *limits
+    # Room is tested last, so a call that is lent nothing gives any other refusal there is.
+    number = call(*run, *lent([], 0, 0), room(0), results(5))
+    if number in (STAGE_LIMIT, SAMPLE_LIMIT):
+        raise over_limits(number, recipe, still, limits)
+    if number != ROOM:
+        done(number, recipe, still)
     width, height, channels, _ = read_still(still)
     out, result = room(file_length(width, height, channels)), results(5)
-    done(call("hejslopi_filter_file", recipe, still, *lent([recipe], width, height), out, result), recipe, still)
+    done(call(*run, *lent([recipe], width, height), out, result), recipe, still)
     return FilteredFile(ctypes.string_at(out, result[4]), result[3])

@@ -3,12 +3,12 @@ from __future__ import annotations
 
 from typing import NamedTuple, Tuple
 
-from .calls import BytesLike, file_length, lent, read_recipe, read_still, results, room, taken, whole
+from .calls import ROOM, BytesLike, file_length, lent, limit_for, read_recipe, read_still, results, room, taken
 from .library import call
-from .messages import found, shown
+from .messages import shown
 from .refusals import Refusal
 
-ROOM, SIZES_DIFFER, MOVEMENT_LIMIT = 20, 26, 27
+SIZES_DIFFER, MOVEMENT_LIMIT = 26, 27
 MOST_LIMIT = 255
 
 
@@ -21,14 +21,6 @@ class Movement(NamedTuple):
     tolerance2: int
     picture1: bytes
     picture2: bytes
-
-
-def limit_for(given: int) -> int:
-    """A limit for the library. One that no machine word holds is as much over 255 as the largest that one does, which is handed on in its place."""
-    number = whole("limit", given)
-    if number < 0:
-        raise ValueError(found("limit", shown(number), "0 to %d" % MOST_LIMIT))
-    return min(number, (1 << 64) - 1)
 
 
 def at_fault(number: int, still1: bytes, recipe1: bytes, still2: bytes, recipe2: bytes, limit: int) -> Tuple[str, str]:
@@ -54,7 +46,7 @@ def movement(still1: BytesLike, recipe1: BytesLike, still2: BytesLike, recipe2: 
     open ones nothing is known: their written samples are so near to the limit that rounding may have decided. A `Refusal` has in `argument` what is at fault.
     """
     still1, recipe1, still2, recipe2 = taken("still1", still1), taken("recipe1", recipe1), taken("still2", still2), taken("recipe2", recipe2)
-    runs = recipe1, still1, recipe2, still2, limit_for(limit)
+    runs = recipe1, still1, recipe2, still2, limit_for("limit", limit, "0 to %d" % MOST_LIMIT)
 
     def refused(number: int) -> Refusal:
         return Refusal(number, *at_fault(number, still1, recipe1, still2, recipe2, limit))

@@ -26,6 +26,8 @@ MEANINGS = {
     25: "a thousand stills are already held",
     26: "the two stills have different sizes or channels",
     27: "the movement limit is over 255",
+    28: "the recipe has more stages than the caller's limit",
+    29: "the still has more samples a plane, width times height, than the caller's limit",
 }
 
 # The numbers whose cause lies in the recipe; all others lie in the still, in the call, in a background or between two stills.

@@ -1,7 +1,7 @@
 //! Netpbm stills (P5, P6) filtered by a recipe, the movement between two of them, and the mean of many.
 //!
 //! Nine calls: [`read_still`], [`write_still`], [`read_recipe`], [`filter_plane`], [`filter_file`], [`movement`], and three on a
-//! [`Background`], which keeps stills and gives their mean. Those that write have a form `.._into` that takes lent buffers and
+//! [`Background`], which keeps stills and gives their mean. [`filter_file_limited`] filters a file for a caller with [`Limits`]. Those that write have a form `.._into` that takes lent buffers and
 //! allocates nothing ([`remove_still_from`] is that of a removal). A [`Refusal`] says why a call did nothing, and [`faulty_stage`]
 //! which stage of a recipe is to blame.
 //!
@@ -16,6 +16,7 @@
 
 mod background;
 mod fault;
+mod limits;
 mod movement;
 pub mod raw;
 mod refusal;
@@ -24,6 +25,7 @@ mod room;
 pub use background::{add_still_into, mean_still_into, remove_still_from};
 pub use background::{Background, Held, Mean, MeanPicture, MOST_STILLS};
 pub use fault::faulty_stage;
+pub use limits::{filter_file_limited, filter_file_limited_into, Limits};
 pub use movement::{movement, movement_into, Counts, Movement};
 pub use refusal::Refusal;
 use room::zeros;
@@ -53,6 +55,19 @@ pub struct Picture {
     pub channels: usize,
     pub tolerance: u64,
     pub length: usize,
+}
+
+impl Picture {
+    /// Of the numbers that a call gives.
+    fn of([width, height, channels, tolerance, length]: [u64; 5]) -> Picture {
+        Picture {
+            width: width as usize,
+            height: height as usize,
+            channels: channels as usize,
+            tolerance,
+            length: length as usize,
+        }
+    }
 }
 
 /// A filtered file.
@@ -169,29 +184,10 @@ pub fn filter_file_into(
 ) -> Result<Picture, Refusal> {
     let mut result = [0; 5];
     let number = raw::filter_file(recipe, still, lent, out, &mut result);
-    let [width, height, channels, tolerance, length] = answer(number, result)?;
-    Ok(Picture {
-        width: width as usize,
-        height: height as usize,
-        channels: channels as usize,
-        tolerance,
-        length: length as usize,
-    })
+    answer(number, result).map(Picture::of)
 }
 
 /// Filter a whole P5 or P6 file.
 pub fn filter_file(recipe: &[u8], still: &[u8]) -> Result<File, Refusal> {
-    read_recipe(recipe)?;
-    let picture = read_still(still)?;
-    let mut room = Room::new(needs(recipe, picture.width, picture.height)?);
-    let mut bytes = zeros(file_need(picture.width, picture.height, picture.channels)?);
-    let done = filter_file_into(recipe, still, room.lend(), &mut bytes)?;
-    bytes.truncate(done.length);
-    Ok(File {
-        width: done.width,
-        height: done.height,
-        channels: done.channels,
-        tolerance: done.tolerance,
-        bytes,
-    })
+    filter_file_limited(recipe, still, Limits::ARCHIVE)
 }

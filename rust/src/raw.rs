@@ -51,6 +51,24 @@ extern "C" {
         result: *mut [u64; 5],
     ) -> u32;
 
+    pub fn hejslopi_filter_file_limited(
+        recipe: *const u8,
+        recipe_len: usize,
+        still: *const u8,
+        still_len: usize,
+        stages: usize,
+        samples: usize,
+        work: *mut u8,
+        work_len: usize,
+        rows: *mut i32,
+        rows_len: usize,
+        sums: *mut u32,
+        sums_len: usize,
+        out: *mut u8,
+        out_len: usize,
+        result: *mut [u64; 5],
+    ) -> u32;
+
     pub fn hejslopi_movement(
         recipe1: *const u8,
         recipe1_len: usize,
@@ -179,6 +197,23 @@ pub fn filter_file(
     let (r, s) = (recipe.as_ptr(), still.as_ptr());
     filtering!(
         hejslopi_filter_file(r, recipe.len(), s, still.len()),
+        lent,
+        [out],
+        result
+    )
+}
+
+pub fn filter_file_limited(
+    recipe: &[u8],
+    still: &[u8],
+    [stages, samples]: [usize; 2],
+    lent: Lent<'_>,
+    out: &mut [u8],
+    result: &mut [u64; 5],
+) -> u32 {
+    let (r, s) = (recipe.as_ptr(), still.as_ptr());
+    filtering!(
+        hejslopi_filter_file_limited(r, recipe.len(), s, still.len(), stages, samples),
         lent,
         [out],
         result

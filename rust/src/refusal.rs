@@ -28,11 +28,13 @@ pub enum Refusal {
     BackgroundFull = 25,
     SizesDiffer = 26,
     MovementLimit = 27,
+    StageLimit = 28,
+    SampleLimit = 29,
 }
 
 impl Refusal {
     /// Every refusal. 21 and 22 are of programs that read files: no call gives them.
-    pub const ALL: [Refusal; 24] = [
+    pub const ALL: [Refusal; 26] = [
         Refusal::Magic,
         Refusal::Header,
         Refusal::Side,
@@ -57,6 +59,8 @@ impl Refusal {
         Refusal::BackgroundFull,
         Refusal::SizesDiffer,
         Refusal::MovementLimit,
+        Refusal::StageLimit,
+        Refusal::SampleLimit,
     ];
 
     pub fn number(self) -> u32 {
@@ -95,6 +99,8 @@ impl fmt::Display for Refusal {
             Refusal::BackgroundFull => "a thousand stills are already held",
             Refusal::SizesDiffer => "the two stills have different sizes or channels",
             Refusal::MovementLimit => "the movement limit is over 255",
+            Refusal::StageLimit => "the recipe has more stages than the caller's limit",
+            Refusal::SampleLimit => "the still has more samples a plane, width times height, than the caller's limit",
         })
     }
 }

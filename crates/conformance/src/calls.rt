@@ -1,12 +1,13 @@
 // One filtering call on buffers that hold junk.
 use answers::File;
 use answers::Filtered;
+use filter_answers::Limits;
 use room::Lent;
 use trial::outcome;
 
-// Which call is made on some bytes: on a file's, or on the samples of a plane with these sides.
+// Which call is made on some bytes: on a file's, with these limits, or on the samples of a plane with these sides.
 pub enum Asked {
-    File,
+    File(Limits),
     Plane(usize, usize),
 }
 
@@ -34,7 +35,9 @@ fn ask(
     out: &mut [u8],
 ) -> File {
     match asked {
-        Asked::File => file_filter::filter_file(recipe, bytes, work, rows, sums, out),
+        Asked::File(limits) => {
+            file_filter::filter_file(recipe, bytes, limits, work, rows, sums, out)
+        }
         Asked::Plane(w, h) => as_file(
             w,
             h,
@@ -59,17 +62,18 @@ fn call_on(
     outcome::show(answer, wanted, work, rows, sums, out);
 }
 
-// One call, its answer and what it left. More than the program of document 01 lends is not lent: the line then lacks an answer.
+// One call, its answer and what it left. More than what the program of document 01 lends, or the row values for a picture of 8,192 by 2, is not lent: the line then
+// lacks an answer.
 pub fn call(lent: Lent, asked: Asked, recipe: &[u8], bytes: &[u8], wanted: &[u8]) {
     let mut work = [0u8; 32768];
-    let mut rows = [0i32; 16384];
+    let mut rows = [0i32; 262144];
     let mut sums = [0u32; 16384];
     let mut out = [0u8; 65536];
     let a = lent.works;
     let b = lent.rows;
     let c = lent.sums;
     let d = lent.out;
-    if a <= 32768 && b <= 16384 && c <= 16384 && d <= 65536 {
+    if a <= 32768 && b <= 262144 && c <= 16384 && d <= 65536 {
         call_on(
             asked,
             recipe,

@@ -3,12 +3,18 @@
 // `FOLDER file LENT` filters a folder's `still` by its `recipe`, and `FOLDER plane LENT W H FROM SKIP` what that still has from place FROM on. The output has to
 // be the folder's `out`, without its first SKIP bytes. LENT are four lengths: work bytes, row values, sums and output bytes. `FOLDER keep` runs a folder's `script`.
 // `FOLDER movement LIMIT LENT` compares a folder's two stills; here LENT has a length for each of both outputs.
+// `FOLDER limited LENT` is `FOLDER file LENT` with the panel's limits in place of the archive's.
 mod calls;
 
 use answers::Recipe;
 use calls::Asked;
+use filter_answers::Limits;
 use room::Lent;
 use trial::files;
+ghost use mathlib.Core.Path.{_≡_};
+ghost use mathlib.Core.Bool.{cond};
+ghost use lib.Dec.{eqb};
+ghost use Rattle.filter_answers.specs.Limits.{archive, panel};
 
 fn show_recipe(bytes: &[u8]) {
     match recipe::read_recipe(bytes) {
@@ -22,11 +28,21 @@ fn show_recipe(bytes: &[u8]) {
     printing::end();
 }
 
+// The limits of a call on a file by the first letter of its kind: those of `limited`, or of any other.
+fn limits_of(letter: u8) -> Limits
+    ensures { λ r. ⌜ r ≡ cond (eqb letter 108) panel archive ⌝ }
+{
+    if letter == b'l' {
+        return filter_answers::PANEL;
+    }
+    filter_answers::ARCHIVE
+}
+
 fn asked(text: &[u8], kind: u8) -> Asked {
     if kind == b'p' {
         return Asked::Plane(words::number(text, 6), words::number(text, 7));
     }
-    Asked::File
+    Asked::File(limits_of(kind))
 }
 
 fn lent(text: &[u8]) -> Lent {
@@ -58,7 +74,7 @@ fn give_back(text: &[u8], path: &[u8]) {
     let c = rereading::write_again(&still[..b], &mut out);
     calls::call(
         lent(text),
-        Asked::File,
+        Asked::File(filter_answers::ARCHIVE),
         &recipe[..a],
         &still[..b],
         &out[..c],
