@@ -27,11 +27,11 @@ def contents(*path):
 
 
 def cases():
-    """The vectors that have a still and a recipe, and whose line is not about files on disk or lent lengths."""
+    """The vectors that have a still and a recipe and no limits, and whose line is not about files on disk or lent lengths."""
     for name in sorted(os.listdir(VECTORS)):
         files = os.listdir(os.path.join(VECTORS, name))
         words = contents(name, "line").split()
-        if "still" in files and "recipe" in files and words[:2] not in ([b"no", b"20"], [b"no", b"21"], [b"no", b"22"]):
+        if "still" in files and "recipe" in files and "limits" not in files and words[:2] not in ([b"no", b"20"], [b"no", b"21"], [b"no", b"22"]):
             yield name, words
 
 
@@ -51,11 +51,29 @@ class Vectors(unittest.TestCase):
                 self.assertEqual(self.answer(contents(name, "still"), contents(name, "recipe")), expected)
         self.assertGreater(tried, 200)
 
+    def test_limits(self):
+        """The panel's answers, and the archive's to the same files. Memory of its own is never too short, so a line about that is left out."""
+        tried = 0
+        for name in sorted(os.listdir(VECTORS)):
+            files = os.listdir(os.path.join(VECTORS, name))
+            if "limits" not in files:
+                continue
+            limits = tuple(map(int, contents(name, "limits").split()))
+            self.assertEqual(limits, hejslopi.PANEL)
+            for line, given in ("line", (limits,)), ("archive" if "archive" in files else "line", ()):
+                words = contents(name, line).split()
+                if words != [b"no", b"20"]:
+                    tried += 1
+                    expected = (contents(name, "out"), int(words[4])) if words[0] == b"ok" else int(words[1])
+                    with self.subTest(name, line=line):
+                        self.assertTrue(self.answer(contents(name, "still"), contents(name, "recipe"), *given) == expected)
+        self.assertEqual(tried, 2 * 43 - 3)
+
     @staticmethod
-    def answer(still, recipe):
+    def answer(still, recipe, *limits):
         """The picture and T, or the number of the refusal."""
         try:
-            return hejslopi.filter_file(still, recipe)
+            return hejslopi.filter_file(still, recipe, *limits)
         except hejslopi.Refusal as refusal:
             return refusal.number
 
@@ -134,6 +152,42 @@ class Calls(unittest.TestCase):
             self.refused(3, hejslopi.write_still, 1, wrong, 1, b"abc")
             self.refused(19, hejslopi.write_still, 3, 1, wrong, b"abc")
             self.refused(3, hejslopi.filter_plane, b"abc", wrong, 1, RECIPE)
+
+    def test_limits(self):
+        """At a limit and one beyond it; 28 comes before the still is looked at, 29 once it has been read. Channels are not counted."""
+        two = bytes.fromhex("02 04 01 00 01 00 04 01 00 01 00")
+        colours = b"P6\n3 1\n255\n" + bytes(9)
+        self.assertEqual(hejslopi.filter_file(STILL, two, (2, 3)), hejslopi.filter_file(STILL, two))
+        self.assertEqual(hejslopi.filter_file(colours, two, [2, 3]), hejslopi.filter_file(colours, two))
+        self.assertEqual(hejslopi.filter_file(STILL, two, limits=hejslopi.ARCHIVE), hejslopi.filter_file(STILL, two))
+        self.assertEqual(hejslopi.filter_file(STILL, two, (1 << 64, 1 << 90)), hejslopi.filter_file(STILL, two))
+        self.refused(28, hejslopi.filter_file, STILL, two, (1, 3))
+        self.refused(28, hejslopi.filter_file, b"P7", two, (1, 0))
+        self.refused(28, hejslopi.filter_file, STILL, RECIPE, (0, 3))
+        self.refused(12, hejslopi.filter_file, STILL, two + b"\0", (1, 3))
+        self.refused(29, hejslopi.filter_file, STILL, two, (2, 2))
+        self.refused(29, hejslopi.filter_file, STILL, two, (2, 0))
+        self.refused(5, hejslopi.filter_file, STILL[:-1], two, (2, 2))
+        self.refused(6, hejslopi.filter_file, STILL + b"\0", two, (2, 2))
+
+    def test_limits_in_words(self):
+        """What was found and what is allowed, of a refusal and of limits that are none."""
+        for limits, words in (((0, 3), "(found 1, allowed: at most 0)"), ((1, 2), "(found 3 by 1, which are 3, allowed: at most 2)")):
+            with self.assertRaises(hejslopi.Refusal) as raised:
+                hejslopi.filter_file(STILL, RECIPE, limits)
+            self.assertEqual(str(raised.exception)[-len(words):], words)
+        for wrong in (4, "48", None, {4, 5}, {"stages": 4, "samples": 5}):
+            with self.assertRaisesRegex(TypeError, "^limits: a pair of stages and samples is needed, and this is of type "):
+                hejslopi.filter_file(STILL, RECIPE, wrong)
+        for wrong in ((), (4,), (4, 5, 6)):
+            with self.assertRaisesRegex(ValueError, "^limits: a pair of stages and samples is needed, and this has a length of %d$" % len(wrong)):
+                hejslopi.filter_file(STILL, RECIPE, wrong)
+        for place, name in enumerate(("stages", "samples")):
+            for wrong in (1.0, True, None, "4"):
+                with self.assertRaisesRegex(TypeError, "^limits, %s: a whole number is needed" % name):
+                    hejslopi.filter_file(STILL, RECIPE, [8, 8][:place] + [wrong] + [8, 8][place + 1:])
+            with self.assertRaisesRegex(ValueError, "^limits, %s: found -1, allowed: 0 or more$" % name):
+                hejslopi.filter_file(STILL, RECIPE, [8, 8][:place] + [-1] + [8, 8][place + 1:])
 
     def test_order_of_refusals(self):
         """A plane: the recipe's, 14 for several stages, the sides, the samples. A still to be written: channels, sides, samples."""

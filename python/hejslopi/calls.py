@@ -109,7 +109,7 @@ def limits_for(given: Tuple[int, int]) -> Limits:
     if not isinstance(given, (tuple, list)):
         raise TypeError("limits: a pair of stages and samples is needed, and this is of type %s" % type(given).__name__)
     if len(given) != 2:
-        raise ValueError(found("limits", "%d numbers" % len(given), "a pair of stages and samples"))
+        raise ValueError("limits: a pair of stages and samples is needed, and this has a length of %d" % len(given))
     return Limits(*(limit_for("limits, " + name, number, "0 or more") for name, number in zip(Limits._fields, given)))
 
 

@@ -194,39 +194,9 @@ fn symmetric_weights_are_filtered_alike() {
 
 fn files(name: &str, count: u64, nanoseconds: usize) {
     compare(name, count, |rng, tally| {
-        let stages = if rng.one_in(3) {
-            rng.size(1, 8)
-        } else {
-            rng.size(1, 3)
-        };
-        let mut recipe = inputs::recipe(rng, stages);
-        if rng.one_in(15) {
-            let within = recipe.len();
-            inputs::damage(rng, &mut recipe, within);
-        }
-        let stages = reference::read_recipe(&recipe).unwrap_or_default();
-        let channels = rng.pick(&[1, 3]);
-        let (w, h) = inputs::size(rng, inputs::cost(&stages) * channels, nanoseconds);
-        let raster = inputs::samples(rng, w * h * channels);
-        let (mut still, header) = inputs::still(rng, w, h, channels, 255, &raster);
-        if rng.one_in(10) {
-            inputs::damage(rng, &mut still, header + 4);
-        }
-        let need = match reference::read_still(&still) {
-            Ok(p) => {
-                let out = format!("P5\n{} {}\n255\n", p.width, p.height).len()
-                    + p.width * p.height * p.channels;
-                reference::needs(&stages, p.width, p.height, out)
-            }
-            Err(_) => Lengths {
-                work: 99,
-                rows: 99,
-                sums: 99,
-                out: 99,
-            },
-        };
+        let (recipe, still, need) = inputs::file(rng, nanoseconds);
         for lengths in inputs::lengths(rng, need) {
-            tally.add(calls::filter_file(rng, &recipe, &still, lengths)?);
+            tally.add(calls::filter_file(rng, &recipe, &still, None, lengths)?);
         }
         Ok(())
     });

@@ -241,8 +241,11 @@ fn vectors() {
     for entry in std::fs::read_dir(&folder).unwrap() {
         let case = entry.unwrap().path();
         let file = |name: &str| std::fs::read(case.join(name)).ok();
-        // the program knows nothing of backgrounds and of movement: tests/scripts.rs and tests/movement_examples.rs run these
-        if file("script").is_some() || file("still1").is_some() {
+        // the program knows nothing of backgrounds, of movement and of limits: tests/scripts.rs, tests/movement_examples.rs and tests/limits.rs run these
+        if ["script", "still1", "limits"]
+            .iter()
+            .any(|name| file(name).is_some())
+        {
             continue;
         }
         let line = String::from_utf8(file("line").unwrap()).unwrap();
@@ -359,7 +362,7 @@ fn refusals_have_numbers_and_words() {
         numbers,
         [
             1, 2, 3, 4, 5, 6, 10, 11, 12, 13, 14, 15, 16, 17, 18, 19, 20, 21, 22, 23, 24, 25, 26,
-            27
+            27, 28, 29
         ]
     );
     for refusal in Refusal::ALL {

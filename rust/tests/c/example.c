@@ -63,6 +63,35 @@ static int movement(void)
     return 0;
 }
 
+/* A file for callers with limits: at a limit and one beyond it. */
+static int limits(void)
+{
+    static const uint8_t still[] = "P5\n3 1\n255\n\x0A\x14\x28", filtered[] = "P5\n3 1\n255\n\x0D\x17\x23";
+    static const uint8_t recipe[] = { 1, 3, 1, 0, 1, 0 };
+    enum { LENGTH = sizeof still - 1, RECIPE = sizeof recipe };
+    uint8_t work[HEJSLOPI_WORK(3, 1)], out[LENGTH];
+    int32_t rows[HEJSLOPI_ROWS(3, 1)];
+    uint32_t sums[1];
+    uint64_t result[5] = { 9, 9, 9, 9, 9 };
+
+    memset(out, 7, sizeof out);
+    CHECK(hejslopi_filter_file_limited(recipe, RECIPE, still, LENGTH, 0, 3, work, sizeof work, rows, HEJSLOPI_ROWS(3, 1),
+                                       sums, 0, out, LENGTH, result) == HEJSLOPI_STAGE_LIMIT);
+    CHECK(hejslopi_filter_file_limited(recipe, RECIPE, still, LENGTH, 1, 2, work, sizeof work, rows, HEJSLOPI_ROWS(3, 1),
+                                       sums, 0, out, LENGTH, result) == HEJSLOPI_SAMPLE_LIMIT);
+    for (size_t k = 0; k < sizeof out; k++)
+        CHECK(out[k] == 7);
+    CHECK(result[0] == 9 && result[4] == 9);
+    CHECK(hejslopi_filter_file_limited(recipe, RECIPE, still, LENGTH, 1, 3, work, sizeof work, rows, HEJSLOPI_ROWS(3, 1),
+                                       sums, 0, out, LENGTH, result) == HEJSLOPI_DONE);
+    CHECK(result[0] == 3 && result[3] == 34301 && result[4] == LENGTH && memcmp(out, filtered, LENGTH) == 0);
+    CHECK(hejslopi_filter_file_limited(recipe, RECIPE, still, LENGTH, HEJSLOPI_PANEL_STAGES, HEJSLOPI_PANEL_SAMPLES, work, sizeof work,
+                                       rows, HEJSLOPI_ROWS(3, 1), sums, 0, out, LENGTH, result) == HEJSLOPI_DONE);
+    CHECK(HEJSLOPI_PANEL_STAGES == 4 && HEJSLOPI_PANEL_SAMPLES == 8192);
+    CHECK(HEJSLOPI_ARCHIVE_STAGES == 8 && HEJSLOPI_ARCHIVE_SAMPLES == (size_t)8192 * 8192);
+    return 0;
+}
+
 int main(void)
 {
     static const uint8_t still[] = "P5\n3 1\n255\n\x0A\x14\x28";
@@ -121,7 +150,7 @@ int main(void)
     CHECK(strcmp(hejslopi_meaning(HEJSLOPI_MOVEMENT_LIMIT), "the movement limit is over 255") == 0);
     CHECK(strcmp(hejslopi_meaning(7), "unknown") == 0 && strcmp(hejslopi_meaning(99), "unknown") == 0);
 
-    if (movement() != 0 || background() != 0)
+    if (limits() != 0 || movement() != 0 || background() != 0)
         return 1;
     puts("ok");
     return 0;

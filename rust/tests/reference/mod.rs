@@ -616,3 +616,20 @@ pub fn filter_file(recipe: &[u8], still: &[u8], lent: Lengths) -> Answer<(Pictur
         .collect();
     Ok((picture, tolerance(&stages), file(w, h, channels, &raster)))
 }
+
+/// The same for a caller who takes so many stages and so many samples a plane.
+pub fn filter_file_limited(
+    recipe: &[u8],
+    still: &[u8],
+    [stages, samples]: [usize; 2],
+    lent: Lengths,
+) -> Answer<(Picture, u64, Vec<u8>)> {
+    if read_recipe(recipe)?.len() > stages {
+        return Err(28);
+    }
+    let picture = read_still(still)?;
+    if picture.width * picture.height > samples {
+        return Err(29);
+    }
+    filter_file(recipe, still, lent)
+}

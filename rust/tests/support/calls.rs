@@ -179,17 +179,28 @@ pub fn filter_plane(
         })
 }
 
+/// With a caller's limits, or by the call that takes none.
 pub fn filter_file(
     rng: &mut Rng,
     recipe: &[u8],
     still: &[u8],
+    limits: Option<[usize; 2]>,
     lengths: Lengths,
 ) -> Result<u32, String> {
     let mut result = result::<5>(rng);
     let mut lent = Lent::new(rng, lengths, [lengths.out]);
     let (buffers, [out]) = lent.lend();
-    let number = raw::filter_file(recipe, still, buffers, out, array(&mut result));
-    let expected = reference::filter_file(recipe, still, lengths);
+    let values = array(&mut result);
+    let (number, expected) = match limits {
+        None => (
+            raw::filter_file(recipe, still, buffers, out, values),
+            reference::filter_file(recipe, still, lengths),
+        ),
+        Some(most) => (
+            raw::filter_file_limited(recipe, still, most, buffers, out, values),
+            reference::filter_file_limited(recipe, still, most, lengths),
+        ),
+    };
     let values = expected
         .as_ref()
         .map(|(p, t, file)| {
@@ -207,7 +218,7 @@ pub fn filter_file(
         .map(|()| number)
         .map_err(|e| {
             format!(
-                "{e}\nrecipe {}\n{lengths:?}\nstill {}\n",
+                "{e}\nrecipe {}\nlimits {limits:?} {lengths:?}\nstill {}\n",
                 hex(recipe),
                 hex(still)
             )

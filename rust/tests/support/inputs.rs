@@ -1,6 +1,42 @@
 //! Random stills and recipes, whole and damaged.
 use super::Rng;
-use crate::reference::{Lengths, Stage, Work};
+use crate::reference::{self, Lengths, Stage, Work};
+
+/// A recipe and a still, each whole or damaged, and what must be lent for them: with some lengths where the still cannot be read.
+pub fn file(rng: &mut Rng, nanoseconds: usize) -> (Vec<u8>, Vec<u8>, Lengths) {
+    let stages = if rng.one_in(3) {
+        rng.size(1, 8)
+    } else {
+        rng.size(1, 3)
+    };
+    let mut recipe = recipe(rng, stages);
+    if rng.one_in(15) {
+        let within = recipe.len();
+        damage(rng, &mut recipe, within);
+    }
+    let stages = reference::read_recipe(&recipe).unwrap_or_default();
+    let channels = rng.pick(&[1, 3]);
+    let (w, h) = size(rng, cost(&stages) * channels, nanoseconds);
+    let raster = samples(rng, w * h * channels);
+    let (mut still, header) = still(rng, w, h, channels, 255, &raster);
+    if rng.one_in(10) {
+        damage(rng, &mut still, header + 4);
+    }
+    let need = match reference::read_still(&still) {
+        Ok(p) => {
+            let out = format!("P5\n{} {}\n255\n", p.width, p.height).len()
+                + p.width * p.height * p.channels;
+            reference::needs(&stages, p.width, p.height, out)
+        }
+        Err(_) => Lengths {
+            work: 99,
+            rows: 99,
+            sums: 99,
+            out: 99,
+        },
+    };
+    (recipe, still, need)
+}
 
 /// Damages bytes in one to three places.
 pub fn damage(rng: &mut Rng, bytes: &mut Vec<u8>, within: usize) {
