@@ -16,7 +16,7 @@ use Rattle.room.specs.declared.Lent.{Lent}
 use Rattle.room.specs.Room.{roomTests}
 use Rattle.filter_answers.specs.declared.Limits.{Limits}
 use Rattle.filter_answers.specs.Limits.{stageTest, sampleTest}
-use Rattle.filter_answers.specs.FileAnswer.{fileSize, stillAnswer, pictureAnswer, lentTests, fileAnswer}
+use Rattle.filter_answers.specs.FileAnswer.{fileSize, stillAnswer, pictureAnswer, lending, fileAnswer}
 
 -- once the recipe is accepted: the still's refusals, then 29, then 20
 abbrev pub stillInOneStep : Limits → List Stage → Lent → Still → File
@@ -24,17 +24,13 @@ stillInOneStep m ts l (Still.Refused n) = Refused n
 stillInOneStep m ts l (Still.Picture W H c start) = tested Refused (sampleTest m W H ∷ roomTests W H ts (fileSize W H c) l) (Picture W H c (tolerance ts) (fileSize W H c))
 
 module _ (m : Limits) (ts : List Stage) (l : Lent) where
-  -- an answer whose lent buffers are tested
-  abbrev lending : File → File
-  lending a = tested Refused (lentTests ts l a) a
-
   -- a refusal stays, so the buffers may be tested before or behind it
-  lending-last : (xs : List Test) (a : File) → lending (tested Refused xs a) ≡ tested Refused xs (lending a)
+  lending-last : (xs : List Test) (a : File) → lending ts l (tested Refused xs a) ≡ tested Refused xs (lending ts l a)
   lending-last [] a = refl
   lending-last ((true, n) ∷ xs) a = lending-last xs a
   lending-last ((false, n) ∷ xs) a = refl
 
-  lending-still : (s : Still) → lending (stillAnswer m (tolerance ts) s) ≡ stillInOneStep m ts l s
+  lending-still : (s : Still) → lending ts l (stillAnswer m (tolerance ts) s) ≡ stillInOneStep m ts l s
   lending-still (Still.Refused n) = refl
   lending-still (Still.Picture W H c start) = lending-last (sampleTest m W H ∷ []) (Picture W H c (tolerance ts) (fileSize W H c))
 

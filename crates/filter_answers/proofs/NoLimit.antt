@@ -21,7 +21,7 @@ use Rattle.answers.specs.declared.File.the-variants.{Refused, Picture}
 use Rattle.room.specs.declared.Lent.{Lent}
 use Rattle.filter_answers.specs.declared.Limits.{Limits}
 use Rattle.filter_answers.specs.Limits.{limits, archive, stageTest, AtMost}
-use Rattle.filter_answers.specs.FileAnswer.{fileSize, stillAnswer, pictureAnswer, lentTests, fileAnswer}
+use Rattle.filter_answers.specs.FileAnswer.{fileSize, stillAnswer, pictureAnswer, lending, fileAnswer}
 use Rattle.filter_answers.proofs.FileAccepted.{shown, picture-left}
 use Rattle.filter_answers.proofs.Wider.{LimitedOr, wider-file}
 
@@ -38,7 +38,7 @@ unlimitedPicture recipe still = tested Refused (recipeTests recipe) (unlimitedSt
 
 -- then 20
 abbrev pub unlimitedFile : List ℕ → List ℕ → Lent → File
-unlimitedFile recipe still l = tested Refused (lentTests (recipeStages recipe) l (unlimitedPicture recipe still)) (unlimitedPicture recipe still)
+unlimitedFile recipe still l = lending (recipeStages recipe) l (unlimitedPicture recipe still)
 
 -- ---- limits of the archive's or more
 
@@ -72,7 +72,7 @@ module _ {m : Limits} (w : AtMost archive m) where
 
   pub no-limit-file : (recipe still : List ℕ) (l : Lent) → fileAnswer m recipe still l ≡ unlimitedFile recipe still l
   unfolding fileAnswer
-  no-limit-file recipe still l = ap (λ (a : File). tested Refused (lentTests (recipeStages recipe) l a) a) (no-limit-picture recipe still)
+  no-limit-file recipe still l = ap (lending (recipeStages recipe) l) (no-limit-picture recipe still)
 
 -- so with the archive's own
 pub archive-itself : AtMost archive archive

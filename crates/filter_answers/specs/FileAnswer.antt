@@ -28,9 +28,12 @@ abbrev pub stillAnswer : Limits → ℕ → Still → File
 stillAnswer m T (Still.Refused n) = Refused n
 stillAnswer m T (Still.Picture W H c start) = tested Refused (sampleTest m W H ∷ []) (Picture W H c T (fileSize W H c))
 
--- the answer to a recipe and a still, whatever is lent: the recipe's refusals come first, then 28, then the still's
+-- the answer to a recipe with these tests and stages and to a still, whatever is lent: the recipe's own refusals come first, then 28, then the still's and 29
+abbrev pub limitedAnswer : Limits → List Test → List Stage → Still → File
+limitedAnswer m own ts s = tested Refused (own ++ stageTest m ts ∷ []) (stillAnswer m (tolerance ts) s)
+
 unfoldable pub pictureAnswer : Limits → List ℕ → List ℕ → File
-pictureAnswer m recipe still = tested Refused (recipeTests recipe ++ stageTest m (recipeStages recipe) ∷ []) (stillAnswer m (tolerance (recipeStages recipe)) (stillOf still))
+pictureAnswer m recipe still = limitedAnswer m (recipeTests recipe) (recipeStages recipe) (stillOf still)
 
 -- what such an answer has shown: a picture's sides keep to their limit, and its recipe is accepted
 abbrev pub Asked : List ℕ → File → Type 0
@@ -42,9 +45,13 @@ abbrev pub lentTests : List Stage → Lent → File → List Test
 lentTests ts l (Refused n) = []
 lentTests ts l (Picture W H c T n) = roomTests W H ts n l
 
--- the answer of `filter_file` to a caller with limits m: the picture's size, T and the length written, or the first refusal: the recipe's, 28, the still's, 29, then 20
+-- such an answer with these buffers: 20 comes last
+abbrev pub lending : List Stage → Lent → File → File
+lending ts l answer = tested Refused (lentTests ts l answer) answer
+
+-- the answer of `filter_file` to a caller with limits m: the picture's size, T and the length written, or the first refusal: the recipe's, 28, the still's, 29, 20
 unfoldable pub fileAnswer : Limits → List ℕ → List ℕ → Lent → File
-fileAnswer m recipe still l = tested Refused (lentTests (recipeStages recipe) l (pictureAnswer m recipe still)) (pictureAnswer m recipe still)
+fileAnswer m recipe still l = lending (recipeStages recipe) l (pictureAnswer m recipe still)
 
 -- a still's samples
 abbrev pub samplesOf : Still → List ℕ → List ℕ

@@ -2,3 +2,4 @@
 pub mod PlaneAnswer
 pub mod Limits
 pub mod FileAnswer
+pub mod LimitExamples
