@@ -24,7 +24,7 @@ mul-size c =
     record { fits = omega (arith, s .plane-small) }
 
 returns : tie.Need-returns
-returns c = sym (still-limited _ _ (sym (c .before .before .before .before .read-still .ensures) ∙ c .before .before .width .given .1) (c .if1 .taken))
+returns c = sym (still-limited _ _ (sym (c .before .before .before .before .read-still .ensures) ∙ c .before .before .width .given .1) (omega (arith, c .if1 .taken)))
 
 header-requires : tie.Need-header-requires
 header-requires c κs =
@@ -47,7 +47,7 @@ returns-2 c = sym (still-refused _ _ (sym (c .before .before .before .read-still
 
 returns-3 : tie.Need-returns-3
 unfolding fileSize
-returns-3 c = sym (still-done _ _ (sym (c .before .before .before .before .before .before .read-still .ensures) ∙ c .before .before .before .before .width .given .1) (c .before .before .if1 .left) ∙ rw (c .before .header .ensures .size))
+returns-3 c = sym (still-done _ _ (sym (c .before .before .before .before .before .before .read-still .ensures) ∙ c .before .before .before .before .width .given .1) (omega (arith, c .before .before .if1 .left)) ∙ rw (c .before .header .ensures .size))
 
 pub still-answer-spec : {M : Type 1} → statement M
 still-answer-spec =
