@@ -161,6 +161,17 @@ def from_python(tally, room):
     tally.equal("the example in Python", answer, (0, "%s %s\n" % (samples, tolerance)))
 
 
+def from_panel(tally, room):
+    """The lines with limits, behind those that make their recipe: the picture and T are the same, and what is refused is said as printed."""
+    text = section("From Python")
+    lines = printed(text, "still = ")
+    _, refusal = command_of(lines, "    print(")
+    body = printed(text, "import hejslopi") + ["first = picture, T"] + lines + ["print(first == (picture, T))"]
+    written(os.path.join(room, "panel.py"), "\n".join(body).encode())
+    answer = says("%s panel.py" % shlex.quote(sys.executable), room, PYTHONPATH="python")
+    tally.equal("limits in Python", answer, (0, "%s\nTrue\n" % refusal))
+
+
 def from_scorer(tally, room):
     """The lines that count movement, behind those that make their recipe: what they print, and the picture of the remark."""
     text = section("From Python")
@@ -276,7 +287,7 @@ def outline_kernels(tally, room):
 
 def try_readme(tally):
     """Each example in a folder of its own, so that none finds what another has made. One that is not there is a failure and stops no other."""
-    for example in (from_shell, sizes, recipes, outline_kernels, from_c, c_program, from_python, from_scorer, from_viewer, python_commands, python_commands_on, from_rust, rust_program):
+    for example in (from_shell, sizes, recipes, outline_kernels, from_c, c_program, from_python, from_panel, from_scorer, from_viewer, python_commands, python_commands_on, from_rust, rust_program):
         with folders.fresh_folder() as room:
             stand_in(room)
             try:

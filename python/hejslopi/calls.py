@@ -104,7 +104,7 @@ def limit_for(name: str, given: int, allowed: str) -> int:
     return min(number, (1 << 64) - 1)
 
 
-def limits_for(given: Tuple[int, int]) -> Limits:
+def limits_for(given: Sequence[int]) -> Limits:
     """A caller's limits for the library."""
     if not isinstance(given, (tuple, list)):
         raise TypeError("limits: a pair of stages and samples is needed, and this is of type %s" % type(given).__name__)
@@ -208,12 +208,13 @@ def over_limits(number: int, recipe: bytes, still: bytes, limits: Limits) -> Ref
     return Refusal(number, "found %d by %d, which are %d, allowed: at most %d" % (width, height, width * height, limits.samples))
 
 
-def filter_file(still: BytesLike, recipe: BytesLike, limits: Tuple[int, int] = ARCHIVE) -> FilteredFile:
+def filter_file(still: BytesLike, recipe: BytesLike, limits: Sequence[int] = ARCHIVE) -> FilteredFile:
     """A still, as a file's bytes, filtered by a recipe: the filtered still, as a file's bytes, and the tolerance T.
 
         picture, T = hejslopi.filter_file(still, recipe, limits=hejslopi.PANEL)
 
-    The limits are how many stages the recipe may have and how many samples a plane of the still, at most. What they let by comes out as without them.
+    The limits are how many stages the recipe may have and how many samples a plane of the still, at most: more are refused with 28 and 29. What they let by comes
+    out as without them.
     """
     still, recipe, limits = taken("still", still), taken("recipe", recipe), limits_for(limits)
     run = "hejslopi_filter_file_limited", recipe, still, *limits

@@ -22,7 +22,8 @@ impl Limits {
     };
 }
 
-/// [`filter_file_into`](crate::filter_file_into) for a caller with limits: what is accepted gives the same picture and the same output.
+/// [`filter_file_into`](crate::filter_file_into) for a caller with limits: what is accepted gives the same picture and the same output. More stages are
+/// refused with [`Refusal::StageLimit`], more samples with [`Refusal::SampleLimit`].
 pub fn filter_file_limited_into(
     recipe: &[u8],
     still: &[u8],
@@ -36,7 +37,8 @@ pub fn filter_file_limited_into(
     answer(number, result).map(Picture::of)
 }
 
-/// [`filter_file`](crate::filter_file) for a caller with limits: what is accepted gives the same file.
+/// [`filter_file`](crate::filter_file) for a caller with limits: what is accepted gives the same file. More stages are refused with
+/// [`Refusal::StageLimit`], more samples with [`Refusal::SampleLimit`].
 pub fn filter_file_limited(recipe: &[u8], still: &[u8], limits: Limits) -> Result<File, Refusal> {
     // Room is tested last, so a call that is lent nothing gives any other refusal there is.
     let nothing = Lent {

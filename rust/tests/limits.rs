@@ -22,7 +22,13 @@ fn refused(number: u32) -> Answer {
     (format!("no {number}"), None)
 }
 
-fn in_lent_memory(recipe: &[u8], still: &[u8], limits: Limits, lengths: Lengths) -> Answer {
+/// With limits, or by the call that takes none.
+fn in_lent_memory(
+    recipe: &[u8],
+    still: &[u8],
+    limits: Option<Limits>,
+    lengths: Lengths,
+) -> Answer {
     let (mut work, mut rows) = (vec![170; lengths.work], vec![-7; lengths.rows]);
     let (mut sums, mut out) = (vec![7; lengths.sums], vec![85; lengths.out]);
     let lent = Lent {
@@ -30,7 +36,13 @@ fn in_lent_memory(recipe: &[u8], still: &[u8], limits: Limits, lengths: Lengths)
         rows: &mut rows,
         sums: &mut sums,
     };
-    match hejslopi::filter_file_limited_into(recipe, still, limits, lent, &mut out) {
+    let answer = match limits {
+        Some(limits) => {
+            hejslopi::filter_file_limited_into(recipe, still, limits, lent, &mut out)
+        }
+        None => hejslopi::filter_file_into(recipe, still, lent, &mut out),
+    };
+    match answer {
         Err(refusal) => refused(refusal.number()),
         Ok(p) => {
             assert!(out[p.length..].iter().all(|byte| *byte == 85));
@@ -91,8 +103,12 @@ fn tried(folder: &Path) {
         let out = bytes("out").filter(|_| line.starts_with("ok"));
         let expected = (line.trim_end().to_string(), out);
         let name = format!("{} with {limits:?}", folder.display());
-        let found = in_lent_memory(&recipe, &still, limits, lengths);
+        let found = in_lent_memory(&recipe, &still, Some(limits), lengths);
         assert!(found == expected, "{name}: {}", found.0);
+        if limits == Limits::ARCHIVE {
+            let found = in_lent_memory(&recipe, &still, None, lengths);
+            assert!(found == expected, "{name}, by the call without limits: {}", found.0);
+        }
         let found = by_the_plain_reading(&recipe, &still, limits, lengths);
         assert!(
             found == expected,
@@ -149,31 +165,32 @@ fn limited_files_are_filtered_alike() {
     });
 }
 
-/// The archive's limits are those of the call that takes none; and what narrower limits accept comes out alike with wider ones.
+/// With the same lent lengths: what narrower limits do not refuse by 28 or 29 comes out alike with wider ones and by the call without limits, and that one gives what the
+/// archive's limits give.
 #[test]
 fn wider_limits_change_nothing_that_is_accepted() {
     compare("wider limits", 4_000, |rng, tally| {
-        let (recipe, still, _) = inputs::file(rng, 300_000);
+        let (recipe, still, need) = inputs::file(rng, 300_000);
+        let lengths = rng.pick(&inputs::lengths(rng, need));
         let [stages, samples] = limits(rng, &recipe, &still);
         let narrow = Limits { stages, samples };
         let wide = Limits {
             stages: stages.saturating_add(rng.size(0, 2)),
             samples: samples.saturating_add(rng.size(0, 9)),
         };
-        let found = hejslopi::filter_file_limited(&recipe, &still, narrow);
-        let other = hejslopi::filter_file_limited(&recipe, &still, wide);
-        let plain = hejslopi::filter_file(&recipe, &still);
-        let archive = hejslopi::filter_file_limited(&recipe, &still, Limits::ARCHIVE);
-        tally.add(found.as_ref().map_or_else(|r| r.number(), |_| 0));
-        let of_limits = |r: &Refusal| [Refusal::StageLimit, Refusal::SampleLimit].contains(r);
-        let limited = found.as_ref().err().is_some_and(of_limits);
-        let right = (limited || (found == other && found == plain))
-            && archive == plain
-            && !plain.as_ref().err().is_some_and(of_limits);
-        if right {
+        let with = |limits| in_lent_memory(&recipe, &still, limits, lengths);
+        let [found, other] = [narrow, wide].map(|limits| with(Some(limits)));
+        let (archive, plain) = (with(Some(Limits::ARCHIVE)), with(None));
+        let limited = |answer: &Answer| [refused(28), refused(29)].contains(answer);
+        let number = found.0.strip_prefix("no ");
+        tally.add(number.map_or(0, |n| n.parse().unwrap()));
+        let alike = limited(&found) || (found == other && found == plain);
+        if alike && archive == plain && !limited(&plain) {
             Ok(())
         } else {
-            Err(format!("{narrow:?} {wide:?}\n{recipe:?}\n{still:?}\n"))
+            Err(format!(
+                "{narrow:?} {wide:?} {lengths:?}\n{recipe:?}\n{still:?}\n"
+            ))
         }
     });
 }
@@ -202,7 +219,7 @@ fn at_the_limits() {
     assert_eq!(limited(&two, b"P7", 2, 0), Err(Refusal::Magic));
 }
 
-/// 29 comes before 20, whatever is lent; without limits the same buffers are too short.
+/// 28 and 29 come before 20: within the limits the same buffers are too short.
 #[test]
 fn limits_before_room() {
     let still = b"P5\n3 1\n255\n\x0A\x14\x28";
@@ -216,7 +233,7 @@ fn limits_before_room() {
             out: 14,
         };
         assert_eq!(
-            in_lent_memory(&recipe, still, limits, lengths),
+            in_lent_memory(&recipe, still, Some(limits), lengths),
             refused(number)
         );
     }

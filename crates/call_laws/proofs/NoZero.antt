@@ -3,14 +3,13 @@ use Prim.Native.Nat.{ℕ, zero, suc, _+_, _≤_}
 use native.Mathlib.Omega.{arith}
 use mathlib.Core.Path.{_≡_, refl, sym, _∙_}
 use mathlib.Core.Logic.{inl, inr}
-use mathlib.Core.Bool.{Bool, true, false, cond, _&&_, and-eq-true-iff}
+use mathlib.Core.Bool.{Bool, true, false, cond, not, _&&_, and-eq-true-iff}
 use mathlib.Core.List.{List, [], _∷_, _++_}
 use lib.Dec.{leb, eqb}
 use lib.IntN.{ℤ, pos, _+ℤ_}
 use lib.ListN.{drop, length}
-use borrow.Author.Tests.{le-leb}
-use Rattle.refusals.specs.Refusal.{Test, tested, sizesDiffer, movementLimit}
-use Rattle.refusals.proofs.Passed.{between}
+use borrow.Author.Tests.{leb-true, le-leb, eqb-false, ne-eqb, not-true}
+use Rattle.refusals.specs.Refusal.{Test, tested, sizesDiffer, movementLimit, stageLimit, sampleLimit}
 use Rattle.answers.specs.declared.Still.{Still}
 use Rattle.answers.specs.declared.Still.the-variants as Still
 use Rattle.answers.specs.declared.Written.{Written}
@@ -42,7 +41,7 @@ use Rattle.room.specs.declared.Lent.{Lent}
 use Rattle.room.specs.Room.{lent, roomTests}
 use Rattle.filter_answers.specs.PlaneAnswer.{planeTests, planeAnswer}
 use Rattle.filter_answers.specs.declared.Limits.{Limits}
-use Rattle.filter_answers.specs.Limits.{archive}
+use Rattle.filter_answers.specs.Limits.{archive, AtMost}
 use Rattle.filter_answers.specs.FileAnswer.{lentTests, fileAnswer}
 use Rattle.filter_answers.proofs.Wider.{LimitedOr}
 use Rattle.filter_answers.proofs.NoLimit.{unlimitedStill, unlimitedPicture, unlimitedFile, no-limit-picture, no-limit-file, archive-itself, limited-file}
@@ -59,21 +58,30 @@ use Rattle.capi.specs.Calls.{WritesStill, FiltersPlane, FiltersFile, CountsMove
 use Rattle.told_background.specs.Calls.{ChangesBackground, MeansStills}
 use Rattle.call_laws.specs.Success.{Success}
 
--- ---- tests whose numbers are 1 to 27
+-- ---- tests whose numbers are neither 0 nor 28 nor 29
+
+-- a refusal that is not of a caller's limits
+abbrev pub NotOfLimits : ℕ → Type 0
+NotOfLimits n = (1 ≤ n) × (n ≡ stageLimit → ⊥) × (n ≡ sampleLimit → ⊥)
+
+abbrev not-of-limits : ℕ → Bool
+not-of-limits n = leb 1 n && (not (eqb n stageLimit) && not (eqb n sampleLimit))
+
+is-not-of-limits : (n : ℕ) → not-of-limits n ≡ true → NotOfLimits n
+is-not-of-limits n e =
+    let h = and-eq-true-iff (leb 1 n) (not (eqb n stageLimit) && not (eqb n sampleLimit)) .0 e in
+    let k = and-eq-true-iff (not (eqb n stageLimit)) (not (eqb n sampleLimit)) .0 (h .1) in
+    (leb-true 1 n (h .0), eqb-false n stageLimit (not-true _ (k .0)), eqb-false n sampleLimit (not-true _ (k .1)))
 
 abbrev numbered : List Test → Bool
 numbered [] = true
-numbered (t ∷ ts) = (leb 1 (t .1) && leb (t .1) 27) && numbered ts
-
--- a refusal that is not of a caller's limits
-abbrev pub Unlimited : ℕ → Type 0
-Unlimited n = (1 ≤ n) × (n ≤ 27)
+numbered (t ∷ ts) = not-of-limits (t .1) && numbered ts
 
 numbered-append : (xs ys : List Test) → numbered xs ≡ true → numbered ys ≡ true → numbered (xs ++ ys) ≡ true
 numbered-append [] ys p q = q
 numbered-append (t ∷ xs) ys p q =
-    let h = and-eq-true-iff (leb 1 (t .1) && leb (t .1) 27) (numbered xs) .0 p in
-    and-eq-true-iff (leb 1 (t .1) && leb (t .1) 27) (numbered (xs ++ ys)) .1 (h .0, numbered-append xs ys (h .1) q)
+    let h = and-eq-true-iff (not-of-limits (t .1)) (numbered xs) .0 p in
+    and-eq-true-iff (not-of-limits (t .1)) (numbered (xs ++ ys)) .1 (h .0, numbered-append xs ys (h .1) q)
 
 numbered-cond : (s : Bool) (xs ys : List Test) → numbered xs ≡ true → numbered ys ≡ true → numbered (cond s xs ys) ≡ true
 numbered-cond true xs ys p q = p
@@ -81,10 +89,10 @@ numbered-cond false xs ys p q = q
 
 -- the refusal of such tests, or of the answer after them
 module _ {A : Type 0} (refuse : ℕ → A) (same : (m n : ℕ) → refuse m ≡ refuse n → m ≡ n) where
-  refused-number : (ts : List Test) (answer : A) (n : ℕ) → numbered ts ≡ true → (answer ≡ refuse n → Unlimited n) → tested refuse ts answer ≡ refuse n → Unlimited n
+  refused-number : (ts : List Test) (answer : A) (n : ℕ) → numbered ts ≡ true → (answer ≡ refuse n → NotOfLimits n) → tested refuse ts answer ≡ refuse n → NotOfLimits n
   refused-number [] answer n p q e = q e
-  refused-number ((true, m) ∷ ts) answer n p q e = refused-number ts answer n (and-eq-true-iff (leb 1 m && leb m 27) (numbered ts) .0 p .1) q e
-  refused-number ((false, m) ∷ ts) answer n p q e = rw (same m n e) at (between 1 m 27 (and-eq-true-iff (leb 1 m && leb m 27) (numbered ts) .0 p .0))
+  refused-number ((true, m) ∷ ts) answer n p q e = refused-number ts answer n (and-eq-true-iff (not-of-limits m) (numbered ts) .0 p .1) q e
+  refused-number ((false, m) ∷ ts) answer n p q e = rw (same m n e) at (is-not-of-limits m (and-eq-true-iff (not-of-limits m) (numbered ts) .0 p .0))
 
 -- ---- the tests of a recipe
 
@@ -146,45 +154,45 @@ recipe-numbered b = stages-numbered (at b 0) (drop 1 b)
 
 -- ---- the calls of document 01
 
-picture-number : (c : ℕ) (h : Header) (total n : ℕ) → pictureOf c h total ≡ Still.Refused n → Unlimited n
+picture-number : (c : ℕ) (h : Header) (total n : ℕ) → pictureOf c h total ≡ Still.Refused n → NotOfLimits n
 unfolding pictureOf headerTests
 picture-number c h total n e = refused-number Still.Refused (λ m k f. cc) (headerTests c h _) (Still.Picture _ _ _ _) n refl other e
   where
-    other : {w h c s : ℕ} → Still.Picture w h c s ≡ Still.Refused n → Unlimited n
+    other : {w h c s : ℕ} → Still.Picture w h c s ≡ Still.Refused n → NotOfLimits n
     other f = let z : _≡_ {A = ℕ} 0 1 = cc in absurd (omega arith)
 
-pub read-still-number : (bytes : List ℕ) (n : ℕ) → stillOf bytes ≡ Still.Refused n → Unlimited n
+pub read-still-number : (bytes : List ℕ) (n : ℕ) → stillOf bytes ≡ Still.Refused n → NotOfLimits n
 unfolding stillOf magicTest
 read-still-number bytes n e = refused-number Still.Refused (λ m k f. cc) (magicTest bytes ∷ []) (pictureOf _ _ _) n refl (picture-number _ _ _ n) e
 
-pub write-still-number : (W H c raster room n : ℕ) → writtenOf W H c raster room ≡ Written.Refused n → Unlimited n
+pub write-still-number : (W H c raster room n : ℕ) → writtenOf W H c raster room ≡ Written.Refused n → NotOfLimits n
 unfolding writtenOf writeTests
 write-still-number W H c raster room n e = refused-number Written.Refused (λ m k f. cc) (writeTests W H c raster room) (Written.Length _) n refl other e
   where
-    other : {l : ℕ} → Written.Length l ≡ Written.Refused n → Unlimited n
+    other : {l : ℕ} → Written.Length l ≡ Written.Refused n → NotOfLimits n
     other f = let z : _≡_ {A = ℕ} 0 1 = cc in absurd (omega arith)
 
-pub read-recipe-number : (recipe : List ℕ) (n : ℕ) → recipeOf recipe ≡ Recipe.Refused n → Unlimited n
+pub read-recipe-number : (recipe : List ℕ) (n : ℕ) → recipeOf recipe ≡ Recipe.Refused n → NotOfLimits n
 unfolding recipeOf
 read-recipe-number recipe n e = refused-number Recipe.Refused (λ m k f. cc) (recipeTests recipe) (Recipe.Stages _ _) n (recipe-numbered recipe) other e
   where
-    other : {S T : ℕ} → Recipe.Stages S T ≡ Recipe.Refused n → Unlimited n
+    other : {S T : ℕ} → Recipe.Stages S T ≡ Recipe.Refused n → NotOfLimits n
     other f = let z : _≡_ {A = ℕ} 0 1 = cc in absurd (omega arith)
 
-pub filter-plane-number : (recipe : List ℕ) (W H samples : ℕ) (l : Lent) (n : ℕ) → planeAnswer recipe W H samples l ≡ Filtered.Refused n → Unlimited n
+pub filter-plane-number : (recipe : List ℕ) (W H samples : ℕ) (l : Lent) (n : ℕ) → planeAnswer recipe W H samples l ≡ Filtered.Refused n → NotOfLimits n
 unfolding planeAnswer planeTests roomTests
 filter-plane-number recipe W H samples l n e =
     refused-number Filtered.Refused (λ m k f. cc) (recipeTests recipe ++ planeTests recipe W H samples l) (Filtered.Tolerance _) n (numbered-append (recipeTests recipe) (planeTests recipe W H samples l) (recipe-numbered recipe) refl) other e
   where
-    other : {T : ℕ} → Filtered.Tolerance T ≡ Filtered.Refused n → Unlimited n
+    other : {T : ℕ} → Filtered.Tolerance T ≡ Filtered.Refused n → NotOfLimits n
     other f = let z : _≡_ {A = ℕ} 0 1 = cc in absurd (omega arith)
 
-still-answer-number : (T : ℕ) (s : Still) (n : ℕ) → ((k : ℕ) → s ≡ Still.Refused k → Unlimited k) → unlimitedStill T s ≡ File.Refused n → Unlimited n
+still-answer-number : (T : ℕ) (s : Still) (n : ℕ) → ((k : ℕ) → s ≡ Still.Refused k → NotOfLimits k) → unlimitedStill T s ≡ File.Refused n → NotOfLimits n
 still-answer-number T (Still.Refused k) n h e = let d : k ≡ n = cc in rw d at (h k refl)
 still-answer-number T (Still.Picture W H c start) n h e = let z : _≡_ {A = ℕ} 0 1 = cc in absurd (omega arith)
 
 -- the recipe's and the still's
-unlimited-number : (recipe still : List ℕ) (n : ℕ) → unlimitedPicture recipe still ≡ File.Refused n → Unlimited n
+unlimited-number : (recipe still : List ℕ) (n : ℕ) → unlimitedPicture recipe still ≡ File.Refused n → NotOfLimits n
 unlimited-number recipe still n e =
     refused-number File.Refused (λ m k f. cc) (recipeTests recipe) (unlimitedStill (tolerance (recipeStages recipe)) (stillOf still)) n (recipe-numbered recipe) (still-answer-number (tolerance (recipeStages recipe)) (stillOf still) n (read-still-number still)) e
 
@@ -193,7 +201,7 @@ unfolding roomTests
 lent-numbered ts l (File.Refused n) = refl
 lent-numbered ts l (File.Picture W H c T n) = refl
 
-unlimited-file-number : (recipe still : List ℕ) (l : Lent) (n : ℕ) → unlimitedFile recipe still l ≡ File.Refused n → Unlimited n
+unlimited-file-number : (recipe still : List ℕ) (l : Lent) (n : ℕ) → unlimitedFile recipe still l ≡ File.Refused n → NotOfLimits n
 unlimited-file-number recipe still l n e =
     refused-number File.Refused (λ m k f. cc) (lentTests (recipeStages recipe) l (unlimitedPicture recipe still)) (unlimitedPicture recipe still) n (lent-numbered (recipeStages recipe) l (unlimitedPicture recipe still)) (unlimited-number recipe still n) e
 
@@ -206,54 +214,57 @@ filter-file-number m recipe still l n e = by-answer (limited-file m recipe still
     by-answer (inr (inl f)) = let d : 29 ≡ n = cc in omega (arith, d)
     by-answer (inr (inr f)) = unlimited-file-number recipe still l n (sym f ∙ e) .0
 
--- with the archive's limits, as the program has them: never 28 and never 29
-pub archive-number : (recipe still : List ℕ) (l : Lent) (n : ℕ) → fileAnswer archive recipe still l ≡ File.Refused n → Unlimited n
-archive-number recipe still l n e = unlimited-file-number recipe still l n (sym (no-limit-file archive-itself recipe still l) ∙ e)
+-- with the archive's limits or larger ones: never 28 and never 29
+pub no-limit-number : {m : Limits} → AtMost archive m → (recipe still : List ℕ) (l : Lent) (n : ℕ) → fileAnswer m recipe still l ≡ File.Refused n → NotOfLimits n
+no-limit-number w recipe still l n e = unlimited-file-number recipe still l n (sym (no-limit-file w recipe still l) ∙ e)
 
-pub program-number : (recipe still : List ℕ) (n : ℕ) → programAnswer recipe still ≡ File.Refused n → Unlimited n
+pub archive-number : (recipe still : List ℕ) (l : Lent) (n : ℕ) → fileAnswer archive recipe still l ≡ File.Refused n → NotOfLimits n
+archive-number = no-limit-number archive-itself
+
+pub program-number : (recipe still : List ℕ) (n : ℕ) → programAnswer recipe still ≡ File.Refused n → NotOfLimits n
 unfolding programAnswer
 program-number recipe still n e = archive-number recipe still programLent n e
 
 -- ---- the calls of document 02
 
-never-changed : {b : Background} (n : ℕ) → changed b ≡ refused n → Unlimited n
+never-changed : {b : Background} (n : ℕ) → changed b ≡ refused n → NotOfLimits n
 never-changed n f = let z : _≡_ {A = ℕ} 0 1 = cc in absurd (omega arith)
 
 -- the still's own refusal, or one of the background's
-addition-number : (s : Still) (file : List ℕ) (number T rasters labels : ℕ) (b : Background) (n : ℕ) → ((k : ℕ) → s ≡ Still.Refused k → Unlimited k)
-    → additionOf s file number T rasters labels b ≡ refused n → Unlimited n
+addition-number : (s : Still) (file : List ℕ) (number T rasters labels : ℕ) (b : Background) (n : ℕ) → ((k : ℕ) → s ≡ Still.Refused k → NotOfLimits k)
+    → additionOf s file number T rasters labels b ≡ refused n → NotOfLimits n
 unfolding addTests
 addition-number (Still.Refused k) file number T rasters labels b n h e = let d : k ≡ n = cc in rw d at (h k refl)
 addition-number (Still.Picture W H c start) file number T rasters labels b n h e =
     refused-number refused (λ m k f. cc) (addTests number W H c rasters labels b) (changed _) n refl (never-changed n) e
 
-pub add-still-number : (file : List ℕ) (number T rasters labels : ℕ) (b : Background) (n : ℕ) → addition file number T rasters labels b ≡ refused n → Unlimited n
+pub add-still-number : (file : List ℕ) (number T rasters labels : ℕ) (b : Background) (n : ℕ) → addition file number T rasters labels b ≡ refused n → NotOfLimits n
 unfolding addition
 add-still-number file number T rasters labels b n e = addition-number (stillOf file) file number T rasters labels b n (read-still-number file) e
 
-pub remove-still-number : (number rasters labels : ℕ) (b : Background) (n : ℕ) → removal number rasters labels b ≡ refused n → Unlimited n
+pub remove-still-number : (number rasters labels : ℕ) (b : Background) (n : ℕ) → removal number rasters labels b ≡ refused n → NotOfLimits n
 unfolding removal removeTests
 remove-still-number number rasters labels b n e = refused-number refused (λ m k f. cc) (removeTests number rasters labels b) (changed _) n refl (never-changed n) e
 
-pub mean-still-number : (rasters labels out : ℕ) (b : Background) (n : ℕ) → meanAnswer rasters labels out b ≡ Mean.Refused n → Unlimited n
+pub mean-still-number : (rasters labels out : ℕ) (b : Background) (n : ℕ) → meanAnswer rasters labels out b ≡ Mean.Refused n → NotOfLimits n
 unfolding meanAnswer meanTests
 mean-still-number rasters labels out b n e = go (eqb (stills b) 0) e
   where
-    go : (t : Bool) → cond t Mean.NoStills (tested Mean.Refused (meanTests rasters labels out b) (Mean.Of (stills b) (meanTolerance (b .members)) (samples b))) ≡ Mean.Refused n → Unlimited n
+    go : (t : Bool) → cond t Mean.NoStills (tested Mean.Refused (meanTests rasters labels out b) (Mean.Of (stills b) (meanTolerance (b .members)) (samples b))) ≡ Mean.Refused n → NotOfLimits n
     go true f = let z : _≡_ {A = ℕ} 0 1 = cc in absurd (omega arith)
     go false f = refused-number Mean.Refused (λ m k f. cc) (meanTests rasters labels out b) (Mean.Of _ _ _) n refl other f
       where
-        other : {k T s : ℕ} → Mean.Of k T s ≡ Mean.Refused n → Unlimited n
+        other : {k T s : ℕ} → Mean.Of k T s ≡ Mean.Refused n → NotOfLimits n
         other f = let z : _≡_ {A = ℕ} 0 1 = cc in absurd (omega arith)
 
-refusal-numbered : (a : File) → ((n : ℕ) → a ≡ File.Refused n → Unlimited n) → numbered (refusalTests a) ≡ true
-refusal-numbered (File.Refused n) h = rw (le-leb 1 n (h n refl .0), le-leb n 27 (h n refl .1))
+refusal-numbered : (a : File) → ((n : ℕ) → a ≡ File.Refused n → NotOfLimits n) → numbered (refusalTests a) ≡ true
+refusal-numbered (File.Refused n) h = let u = h n refl in rw (le-leb 1 n (u .0), ne-eqb n stageLimit (u .1), ne-eqb n sampleLimit (u .2))
 refusal-numbered (File.Picture W H c T n) h = refl
 
-run-number : (r : Run) (n : ℕ) → asked r ≡ File.Refused n → Unlimited n
+run-number : (r : Run) (n : ℕ) → asked r ≡ File.Refused n → NotOfLimits n
 run-number r n e = unlimited-number (r .recipe) (r .still) n (sym (no-limit-picture archive-itself (r .recipe) (r .still)) ∙ e)
 
-pub count-movement-number : (L : ℕ) (a b : Run) (n : ℕ) → movementAnswer L a b ≡ Movement.Refused n → Unlimited n
+pub count-movement-number : (L : ℕ) (a b : Run) (n : ℕ) → movementAnswer L a b ≡ Movement.Refused n → NotOfLimits n
 unfolding movementAnswer movementTests inOrder
 count-movement-number L a b n e = refused-number Movement.Refused (λ m k f. cc) (movementTests L a b) (counts (motionsBetween L a b) a b) n all other e
   where
@@ -266,7 +277,7 @@ count-movement-number L a b n e = refused-number Movement.Refused (λ m k f. cc)
         let then = numbered-append own ((sameSize (asked a) (asked b), sizesDiffer) ∷ lentTests (stages a) (a .lent) (asked a)) first (lent-numbered (stages a) (a .lent) (asked a)) in
         numbered-append (own ++ ((sameSize (asked a) (asked b), sizesDiffer) ∷ lentTests (stages a) (a .lent) (asked a))) (lentTests (stages b) (b .lent) (asked b)) then (lent-numbered (stages b) (b .lent) (asked b))
 
-    other : {m s o T T′ k : ℕ} → Movement.Counts m s o T T′ k ≡ Movement.Refused n → Unlimited n
+    other : {m s o T T′ k : ℕ} → Movement.Counts m s o T T′ k ≡ Movement.Refused n → NotOfLimits n
     other f = let z : _≡_ {A = ℕ} 0 1 = cc in absurd (omega arith)
 
 -- ---- the same for a C caller: 0 is told of success alone
@@ -279,19 +290,19 @@ succeeds : (t : Told) {xs ys : List ℕ} {r : ℕ} → NoZero t → Tells t xs y
 succeeds (refusal n) h t z = absurd (omega (arith, h, t .number, z))
 succeeds (values ns) h t z = record { answer = ns; is = refl; array-is = t .numbers }
 
-still-told : (a : Still) → ((n : ℕ) → a ≡ Still.Refused n → Unlimited n) → NoZero (stillTold a)
+still-told : (a : Still) → ((n : ℕ) → a ≡ Still.Refused n → NotOfLimits n) → NoZero (stillTold a)
 still-told (Still.Refused n) h = h n refl .0
 still-told (Still.Picture W H c start) h = tt
 
-written-told : (a : Written) → ((n : ℕ) → a ≡ Written.Refused n → Unlimited n) → NoZero (writtenTold a)
+written-told : (a : Written) → ((n : ℕ) → a ≡ Written.Refused n → NotOfLimits n) → NoZero (writtenTold a)
 written-told (Written.Refused n) h = h n refl .0
 written-told (Written.Length n) h = tt
 
-recipe-told : (a : Recipe) → ((n : ℕ) → a ≡ Recipe.Refused n → Unlimited n) → NoZero (recipeTold a)
+recipe-told : (a : Recipe) → ((n : ℕ) → a ≡ Recipe.Refused n → NotOfLimits n) → NoZero (recipeTold a)
 recipe-told (Recipe.Refused n) h = h n refl .0
 recipe-told (Recipe.Stages S T) h = tt
 
-plane-told : (a : Filtered) → ((n : ℕ) → a ≡ Filtered.Refused n → Unlimited n) → NoZero (planeTold a)
+plane-told : (a : Filtered) → ((n : ℕ) → a ≡ Filtered.Refused n → NotOfLimits n) → NoZero (planeTold a)
 plane-told (Filtered.Refused n) h = h n refl .0
 plane-told (Filtered.Tolerance T) h = tt
 
@@ -299,16 +310,16 @@ file-told : (a : File) → ((n : ℕ) → a ≡ File.Refused n → 1 ≤ n) → 
 file-told (File.Refused n) h = h n refl
 file-told (File.Picture W H c T n) h = tt
 
-changed-told : (o : Outcome) → ((n : ℕ) → o ≡ refused n → Unlimited n) → NoZero (changedTold (answerOf o))
+changed-told : (o : Outcome) → ((n : ℕ) → o ≡ refused n → NotOfLimits n) → NoZero (changedTold (answerOf o))
 changed-told (refused n) h = h n refl .0
 changed-told (changed b) h = tt
 
-mean-told : (a : Mean) → ((n : ℕ) → a ≡ Mean.Refused n → Unlimited n) → NoZero (meanTold a)
+mean-told : (a : Mean) → ((n : ℕ) → a ≡ Mean.Refused n → NotOfLimits n) → NoZero (meanTold a)
 mean-told (Mean.Refused n) h = h n refl .0
 mean-told Mean.NoStills h = tt
 mean-told (Mean.Of k T n) h = tt
 
-movement-told : (a : Movement) → ((n : ℕ) → a ≡ Movement.Refused n → Unlimited n) → NoZero (movementTold a)
+movement-told : (a : Movement) → ((n : ℕ) → a ≡ Movement.Refused n → NotOfLimits n) → NoZero (movementTold a)
 movement-told (Movement.Refused n) h = h n refl .0
 movement-told (Movement.Counts m s o T T′ n) h = tt
 

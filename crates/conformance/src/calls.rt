@@ -62,8 +62,8 @@ fn call_on(
     outcome::show(answer, wanted, work, rows, sums, out);
 }
 
-// One call, its answer and what it left. More than what the program of document 01 lends, or the row values for a picture of 8,192 by 2, is not lent: the line then
-// lacks an answer.
+// One call, its answer and what it left. No more is lent than the program of document 01 lends, but for row values: as many as 8,192 by 2 needs. For more the line lacks
+// an answer.
 pub fn call(lent: Lent, asked: Asked, recipe: &[u8], bytes: &[u8], wanted: &[u8]) {
     let mut work = [0u8; 32768];
     let mut rows = [0i32; 262144];

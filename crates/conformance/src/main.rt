@@ -28,7 +28,7 @@ fn show_recipe(bytes: &[u8]) {
     printing::end();
 }
 
-// The limits of a call on a file by the first letter of its kind: those of `limited`, or of any other.
+// The limits of a call on a file, by the first letter of its kind: the panel's for `limited`, the archive's for any other.
 fn limits_of(letter: u8) -> Limits
     ensures { λ r. ⌜ r ≡ cond (eqb letter 108) panel archive ⌝ }
 {

@@ -19,8 +19,8 @@ use Rattle.file_filter.specs.FiltersFile.{refused, fileOutput, FiltersFi
 
 -- the same answer, with its T, and the same bytes in the whole of the lent output
 pub record Alike (answer1 answer2 : File) (out1 out2 : List ℕ) : Type 0 where
-  pub same-answer : answer1 ≡ answer2
-  pub same-output : out1 ≡ out2
+  pub answer : answer1 ≡ answer2
+  pub output : out1 ≡ out2
 
 -- both are lent buffers of the same lengths and the same output; the work buffers may hold anything
 module _ {recipe still work1 work2 work1′ work2′ : List ℕ} {rows1 rows2 rows1′ rows2′ : List ℤ} {sums1 sums2 sums1′ sums2′ out out1′ out2′ : List ℕ} {answer1 answer2 : File}
@@ -31,7 +31,7 @@ module _ {recipe still work1 work2 work1′ work2′ : List ℕ} {rows1 rows2 ro
       → refused answer1 ≡ false → Alike answer1 answer2 out1′ out2′
   alike {a} {b} w f g accepted =
       let same = by-answer answer1 (f .answered) accepted ∙ sym (g .answered) in
-      record { same-answer = same; same-output = f .output ∙ ap (λ (x : File). fileOutput x (recipeStages recipe) (samplesOf (stillOf still) still) out) same ∙ sym (g .output) }
+      record { answer = same; output = f .output ∙ ap (λ (x : File). fileOutput x (recipeStages recipe) (samplesOf (stillOf still) still) out) same ∙ sym (g .output) }
     where
       by-answer : (x : File) → x ≡ fileAnswer a recipe still (lent (length work1) (length rows1) (length sums1) (length out)) → refused x ≡ false
           → x ≡ fileAnswer b recipe still (lent (length work2) (length rows2) (length sums2) (length out))

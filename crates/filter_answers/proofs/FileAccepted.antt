@@ -6,7 +6,7 @@ use mathlib.Core.Path.{_≡_, refl, sym, ap, _∙_}
 use mathlib.Core.Logic.{⊎-elim}
 use mathlib.Core.List.{List, [], _∷_, _++_}
 use lib.ListN.{length, drop, length-drop}
-use borrow.Author.Tests.{leb-true, le-leb, lt-leb}
+use borrow.Author.Tests.{le-leb, lt-leb}
 use Rattle.refusals.specs.Refusal.{tested, verdict, stageLimit, sampleLimit}
 use Rattle.refusals.specs.declared.Verdict.the-variants as Verdict
 use Rattle.refusals.proofs.Passed.{AllPass, passed, passed-all, passed-part, refused-part, passed-whole, refused-whole, all-append}
@@ -25,7 +25,7 @@ use Rattle.room.specs.declared.Lent.{Lent}
 use Rattle.room.specs.Room.{roomTests, Sufficient}
 use Rattle.room.proofs.Suffices.{suffices}
 use Rattle.filter_answers.specs.declared.Limits.{Limits}
-use Rattle.filter_answers.specs.Limits.{stageTest, sampleTest}
+use Rattle.filter_answers.specs.Limits.{stageLimitTest, sampleLimitTest}
 use Rattle.filter_answers.specs.FileAnswer.{fileSize, samplesOf, stillAnswer, pictureAnswer, Asked, lentTests, fileAnswer}
 
 -- what a still that was read keeps to
@@ -71,19 +71,19 @@ module _ (m : Limits) (recipe still : List ℕ) where
   -- a recipe that is refused decides
   pub picture-refused : {k : ℕ} → recipeOf recipe ≡ Recipe.Refused k → pictureAnswer m recipe still ≡ File.Refused k
   unfolding pictureAnswer recipeOf
-  picture-refused e = refused-part File.Refused (stageTest m (recipeStages recipe) ∷ []) _ (recipeTests recipe) (recipe-refused recipe e)
+  picture-refused e = refused-part File.Refused (stageLimitTest m (recipeStages recipe) ∷ []) _ (recipeTests recipe) (recipe-refused recipe e)
 
   -- one that is accepted leaves it to the limit
   module _ (e : verdict (recipeTests recipe) ≡ Verdict.Passed) where
     pub picture-limited : m .stages < length (recipeStages recipe) → pictureAnswer m recipe still ≡ File.Refused stageLimit
     unfolding pictureAnswer
-    picture-limited h = passed-part File.Refused (stageTest m (recipeStages recipe) ∷ []) _ (recipeTests recipe) e ∙ rw (lt-leb (length (recipeStages recipe)) (m .stages) h)
+    picture-limited h = passed-part File.Refused (stageLimitTest m (recipeStages recipe) ∷ []) _ (recipeTests recipe) e ∙ rw (lt-leb (length (recipeStages recipe)) (m .stages) h)
 
     -- and one within it to the still
     module _ (few : length (recipeStages recipe) ≤ m .stages) where
       pub picture-left : pictureAnswer m recipe still ≡ stillAnswer m (tolerance (recipeStages recipe)) (stillOf still)
       unfolding pictureAnswer
-      picture-left = passed-part File.Refused (stageTest m (recipeStages recipe) ∷ []) _ (recipeTests recipe) e ∙ rw (le-leb (length (recipeStages recipe)) (m .stages) few)
+      picture-left = passed-part File.Refused (stageLimitTest m (recipeStages recipe) ∷ []) _ (recipeTests recipe) e ∙ rw (le-leb (length (recipeStages recipe)) (m .stages) few)
 
       pub picture-read : {W H c start : ℕ} → stillOf still ≡ Still.Picture W H c start → W * H ≤ m .samples
           → pictureAnswer m recipe still ≡ File.Picture W H c (tolerance (recipeStages recipe)) (fileSize W H c)
@@ -92,8 +92,6 @@ module _ (m : Limits) (recipe still : List ℕ) where
   -- what an answer with a picture has shown
   pub record Pictured (W H c T n : ℕ) : Type 0 where
     pub accepted : verdict (recipeTests recipe) ≡ Verdict.Passed
-    pub few-stages : length (recipeStages recipe) ≤ m .stages
-    pub few-samples : W * H ≤ m .samples
     pub T-is : tolerance (recipeStages recipe) ≡ T
     pub size-is : fileSize W H c ≡ n
     pub start : ℕ
@@ -102,30 +100,21 @@ module _ (m : Limits) (recipe still : List ℕ) where
   pub pictured : {W H c T n : ℕ} → pictureAnswer m recipe still ≡ File.Picture W H c T n → Pictured W H c T n
   unfolding pictureAnswer
   pictured {W} {H} {c} {T} {n} e =
-      let p = passed File.Refused (recipeTests recipe ++ stageTest m (recipeStages recipe) ∷ []) (stillAnswer m (tolerance (recipeStages recipe)) (stillOf still)) (File.Picture W H c T n) (λ n f. let z : _≡_ {A = ℕ} 0 1 = cc in omega arith) e in
-      let q = all-append (recipeTests recipe) (stageTest m (recipeStages recipe) ∷ []) (p .0) in
-      by-still (stillOf still) refl (passed-all _ (q .0)) (leb-true _ _ (q .1 .0)) (p .1)
+      let p = passed File.Refused (recipeTests recipe ++ stageLimitTest m (recipeStages recipe) ∷ []) (stillAnswer m (tolerance (recipeStages recipe)) (stillOf still)) (File.Picture W H c T n) (λ n f. let z : _≡_ {A = ℕ} 0 1 = cc in omega arith) e in
+      let q = all-append (recipeTests recipe) (stageLimitTest m (recipeStages recipe) ∷ []) (p .0) in
+      by-still (stillOf still) refl (passed-all _ (q .0)) (p .1)
     where
-      by-still : (s : Still) → stillOf still ≡ s → verdict (recipeTests recipe) ≡ Verdict.Passed → length (recipeStages recipe) ≤ m .stages
-          → stillAnswer m (tolerance (recipeStages recipe)) s ≡ File.Picture W H c T n → Pictured W H c T n
-      by-still (Still.Refused k) f v few g = let z : _≡_ {A = ℕ} 0 1 = cc in absurd (omega arith)
-      by-still (Still.Picture W′ H′ c′ start) f v few g =
-          let q = passed File.Refused (sampleTest m W′ H′ ∷ []) (File.Picture W′ H′ c′ (tolerance (recipeStages recipe)) (fileSize W′ H′ c′)) (File.Picture W H c T n) (λ n f. let z : _≡_ {A = ℕ} 0 1 = cc in omega arith) g in
+      by-still : (s : Still) → stillOf still ≡ s → verdict (recipeTests recipe) ≡ Verdict.Passed → stillAnswer m (tolerance (recipeStages recipe)) s ≡ File.Picture W H c T n → Pictured W H c T n
+      by-still (Still.Refused k) f v g = let z : _≡_ {A = ℕ} 0 1 = cc in absurd (omega arith)
+      by-still (Still.Picture W′ H′ c′ start) f v g =
+          let q = passed File.Refused (sampleLimitTest m W′ H′ ∷ []) (File.Picture W′ H′ c′ (tolerance (recipeStages recipe)) (fileSize W′ H′ c′)) (File.Picture W H c T n) (λ n f. let z : _≡_ {A = ℕ} 0 1 = cc in omega arith) g in
           let t = q .1 in
           let ew : W′ ≡ W = cc in
           let eh : H′ ≡ H = cc in
           let ec : c′ ≡ c = cc in
           let et : tolerance (recipeStages recipe) ≡ T = cc in
           let en : fileSize W′ H′ c′ ≡ n = cc in
-          record {
-            accepted = v;
-            few-stages = few;
-            few-samples = rw (sym ew, sym eh) (leb-true _ _ (q .0 .0));
-            T-is = et;
-            size-is = rw (sym ew, sym eh, sym ec) en;
-            start = start;
-            read = rw (sym ew, sym eh, sym ec) f;
-          }
+          record { accepted = v; T-is = et; size-is = rw (sym ew, sym eh, sym ec) en; start = start; read = rw (sym ew, sym eh, sym ec) f }
 
   -- so the lent buffers can be tested for it
   pub answer-asked : (a : File) → pictureAnswer m recipe still ≡ a → Asked recipe a

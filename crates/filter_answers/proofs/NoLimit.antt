@@ -20,12 +20,12 @@ use Rattle.answers.specs.declared.File.{File}
 use Rattle.answers.specs.declared.File.the-variants.{Refused, Picture}
 use Rattle.room.specs.declared.Lent.{Lent}
 use Rattle.filter_answers.specs.declared.Limits.{Limits}
-use Rattle.filter_answers.specs.Limits.{limits, archive, stageTest, AtMost}
+use Rattle.filter_answers.specs.Limits.{limits, archive, stageLimitTest, AtMost}
 use Rattle.filter_answers.specs.FileAnswer.{fileSize, stillAnswer, pictureAnswer, lending, fileAnswer}
 use Rattle.filter_answers.proofs.FileAccepted.{shown, picture-left}
 use Rattle.filter_answers.proofs.Wider.{LimitedOr, wider-file}
 
--- ---- the answers of a call without limits
+-- ---- the answers of a call without limits, as they were defined before 2026-07: to compare with, and for nothing else
 
 -- the still's refusal, or its size, T and how many bytes are to be written
 abbrev pub unlimitedStill : ℕ → Still → File
@@ -40,7 +40,7 @@ unlimitedPicture recipe still = tested Refused (recipeTests recipe) (unlimitedSt
 abbrev pub unlimitedFile : List ℕ → List ℕ → Lent → File
 unlimitedFile recipe still l = lending (recipeStages recipe) l (unlimitedPicture recipe still)
 
--- ---- limits of the archive's or more
+-- ---- limits that are at least the archive's
 
 module _ {m : Limits} (w : AtMost archive m) where
   -- no recipe that is accepted has more stages
@@ -64,7 +64,7 @@ module _ {m : Limits} (w : AtMost archive m) where
       T = tolerance (recipeStages recipe)
 
       by-recipe : (v : Verdict) → verdict (recipeTests recipe) ≡ v → pictureAnswer m recipe still ≡ unlimitedPicture recipe still
-      by-recipe (Verdict.Refused n) e = refused-part Refused (stageTest m (recipeStages recipe) ∷ []) _ (recipeTests recipe) e ∙ sym (refused-whole Refused _ (recipeTests recipe) e)
+      by-recipe (Verdict.Refused n) e = refused-part Refused (stageLimitTest m (recipeStages recipe) ∷ []) _ (recipeTests recipe) e ∙ sym (refused-whole Refused _ (recipeTests recipe) e)
       by-recipe Verdict.Passed e =
           picture-left m recipe still e (stages-within recipe e)
           ∙ same-still still T (stillOf still) refl
@@ -74,7 +74,7 @@ module _ {m : Limits} (w : AtMost archive m) where
   unfolding fileAnswer
   no-limit-file recipe still l = ap (lending (recipeStages recipe) l) (no-limit-picture recipe still)
 
--- so with the archive's own
+-- the archive's limits are at most themselves
 pub archive-itself : AtMost archive archive
 archive-itself = record { stages = omega arith; samples = omega arith }
 

@@ -4,14 +4,14 @@ use native.Mathlib.Omega.{arith}
 use mathlib.Core.Path.{_≡_, refl, sym, ap, _∙_}
 use mathlib.Core.Logic.{_⊎_, inl, inr}
 use mathlib.Core.Bool.{Bool, true, false}
-use mathlib.Core.List.{List, [], _∷_}
+use mathlib.Core.List.{List}
 use lib.Dec.{leb}
 use lib.ListN.{length}
-use borrow.Author.Tests.{leb-true, le-leb}
-use Rattle.refusals.specs.Refusal.{tested, verdict, stageLimit, sampleLimit}
+use borrow.Author.Tests.{leb-true, leb-false}
+use Rattle.refusals.specs.Refusal.{verdict, stageLimit, sampleLimit}
 use Rattle.refusals.specs.declared.Verdict.{Verdict}
 use Rattle.refusals.specs.declared.Verdict.the-variants as Verdict
-use Rattle.refusals.proofs.Passed.{passed-part, refused-part}
+use Rattle.refusals.proofs.Passed.{refused-part}
 use Rattle.model.specs.Tolerance.{tolerance}
 use Rattle.answers.specs.declared.Still.{Still}
 use Rattle.answers.specs.declared.Still.the-variants as Still
@@ -21,8 +21,9 @@ use Rattle.answers.specs.declared.File.{File}
 use Rattle.answers.specs.declared.File.the-variants.{Refused, Picture}
 use Rattle.room.specs.declared.Lent.{Lent}
 use Rattle.filter_answers.specs.declared.Limits.{Limits}
-use Rattle.filter_answers.specs.Limits.{archive, panel, stageTest, AtMost}
-use Rattle.filter_answers.specs.FileAnswer.{stillAnswer, pictureAnswer, lentTests, fileAnswer}
+use Rattle.filter_answers.specs.Limits.{archive, panel, AtMost}
+use Rattle.filter_answers.specs.FileAnswer.{stillAnswer, pictureAnswer, fileAnswer}
+use Rattle.filter_answers.proofs.FileAccepted.{still-limited, still-done, picture-limited, picture-left}
 
 -- an answer that is 28, or 29, or the other one
 abbrev pub LimitedOr : File → File → Type 0
@@ -34,24 +35,20 @@ module _ {a b : Limits} (w : AtMost a b) where
   wider-still T (Still.Picture W H c start) = by-samples (leb (W * H) (a .samples)) refl
     where
       by-samples : (t : Bool) → leb (W * H) (a .samples) ≡ t → LimitedOr (stillAnswer b T (Still.Picture W H c start)) (stillAnswer a T (Still.Picture W H c start))
-      by-samples false e = inr (inl (rw e refl))
-      by-samples true e = let few = leb-true (W * H) (a .samples) e in inr (inr (rw (e, le-leb (W * H) (b .samples) (omega (arith, few, w .samples))) refl))
+      by-samples false e = inr (inl (still-limited a T {start = start} refl (leb-false (W * H) (a .samples) e)))
+      by-samples true e =
+          let few : W * H ≤ a .samples = leb-true (W * H) (a .samples) e in
+          let fewer : W * H ≤ b .samples = omega (arith, few, w .samples) in
+          inr (inr (still-done a T {start = start} refl few ∙ sym (still-done b T {start = start} refl fewer)))
 
   module _ (recipe still : List ℕ) where
     pub wider-picture : LimitedOr (pictureAnswer b recipe still) (pictureAnswer a recipe still)
     unfolding pictureAnswer
     wider-picture = by-recipe (verdict (recipeTests recipe)) refl
       where
-        -- once the recipe is accepted
-        left : (m : Limits) → verdict (recipeTests recipe) ≡ Verdict.Passed
-            → pictureAnswer m recipe still ≡ tested Refused (stageTest m (recipeStages recipe) ∷ []) (stillAnswer m (tolerance (recipeStages recipe)) (stillOf still))
-        left m e = passed-part Refused (stageTest m (recipeStages recipe) ∷ []) _ (recipeTests recipe) e
-
         by-stages : verdict (recipeTests recipe) ≡ Verdict.Passed → (t : Bool) → leb (length (recipeStages recipe)) (a .stages) ≡ t → LimitedOr (pictureAnswer b recipe still) (pictureAnswer a recipe still)
-        by-stages e false f = inl (left a e ∙ rw f)
-        by-stages e true f =
-            let few = leb-true (length (recipeStages recipe)) (a .stages) f in
-            rw (left a e, left b e, f, le-leb (length (recipeStages recipe)) (b .stages) (omega (arith, few, w .stages))) (wider-still (tolerance (recipeStages recipe)) (stillOf still))
+        by-stages e false f = inl (picture-limited a recipe still e (leb-false (length (recipeStages recipe)) (a .stages) f))
+        by-stages e true f = let few = leb-true (length (recipeStages recipe)) (a .stages) f in rw (picture-left a recipe still e few, picture-left b recipe still e (omega (arith, few, w .stages))) (wider-still (tolerance (recipeStages recipe)) (stillOf still))
 
         by-recipe : (v : Verdict) → verdict (recipeTests recipe) ≡ v → LimitedOr (pictureAnswer b recipe still) (pictureAnswer a recipe still)
         by-recipe (Verdict.Refused n) e = inr (inr (refused-part Refused _ _ (recipeTests recipe) e ∙ sym (refused-part Refused _ _ (recipeTests recipe) e)))

@@ -17,7 +17,7 @@ use Rattle.answers.specs.declared.File.the-variants.{Refused, Picture}
 use Rattle.room.specs.declared.Lent.{Lent}
 use Rattle.room.specs.Room.{roomTests}
 use Rattle.filter_answers.specs.declared.Limits.{Limits}
-use Rattle.filter_answers.specs.Limits.{stageTest, sampleTest}
+use Rattle.filter_answers.specs.Limits.{stageLimitTest, sampleLimitTest}
 
 -- how many bytes the written file has: its header's, and one for each sample
 unfoldable pub fileSize : ℕ → ℕ → ℕ → ℕ
@@ -26,16 +26,18 @@ fileSize W H c = length (headerBytes W H c) + W * H * c
 -- the answer to a still by a recipe with this T, whatever is lent: the still's refusal, or 29, or its size, T and how many bytes are to be written
 abbrev pub stillAnswer : Limits → ℕ → Still → File
 stillAnswer m T (Still.Refused n) = Refused n
-stillAnswer m T (Still.Picture W H c start) = tested Refused (sampleTest m W H ∷ []) (Picture W H c T (fileSize W H c))
+stillAnswer m T (Still.Picture W H c start) = tested Refused (sampleLimitTest m W H ∷ []) (Picture W H c T (fileSize W H c))
 
--- the answer to a recipe with these tests and stages and to a still, whatever is lent: the recipe's own refusals come first, then 28, then the still's and 29
+-- the answer to a recipe with these tests and stages and to a still, whatever is lent: the recipe's own refusals come first, then 28, then the still's and 29.
+-- It is apart from the bytes, so that worked examples need none
 abbrev pub limitedAnswer : Limits → List Test → List Stage → Still → File
-limitedAnswer m own ts s = tested Refused (own ++ stageTest m ts ∷ []) (stillAnswer m (tolerance ts) s)
+limitedAnswer m own ts s = tested Refused (own ++ stageLimitTest m ts ∷ []) (stillAnswer m (tolerance ts) s)
 
+-- the same of a recipe's and a still's bytes
 unfoldable pub pictureAnswer : Limits → List ℕ → List ℕ → File
 pictureAnswer m recipe still = limitedAnswer m (recipeTests recipe) (recipeStages recipe) (stillOf still)
 
--- what such an answer has shown: a picture's sides keep to their limit, and its recipe is accepted
+-- what such an answer has shown: a picture's sides are at most 8,192, and its recipe is accepted
 abbrev pub Asked : List ℕ → File → Type 0
 Asked recipe (Refused n) = Unit {0}
 Asked recipe (Picture W H c T n) = (W ≤ 8192) × (H ≤ 8192) × (verdict (recipeTests recipe) ≡ Passed)

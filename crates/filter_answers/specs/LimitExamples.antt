@@ -27,8 +27,8 @@ unfoldable pub row : String → List ℕ → List ℕ → Example
 row n f e = record { name = n; found = f; expected = e }
 
 -- so many stages
-unfoldable pub some : ℕ → List Stage
-some k = replicate k (stage nearest 0 outline)
+unfoldable pub outlines : ℕ → List Stage
+outlines k = replicate k (stage nearest 0 outline)
 
 -- a still of this size and so many channels, behind a header of 13 bytes
 unfoldable pub picture : ℕ → ℕ → ℕ → Still
@@ -39,17 +39,17 @@ unfoldable pub number : File → ℕ
 number (Refused n) = n
 number (Picture W H c T n) = 0
 
--- of a recipe with these tests of its own and so many stages, and of a still
+-- the refusal of a recipe with these tests of its own and so many stages, and of a still
 unfoldable pub answers : Limits → List Test → ℕ → Still → ℕ
-answers m own k s = number (limitedAnswer m own (some k) s)
+answers m own k s = number (limitedAnswer m own (outlines k) s)
 
 -- a recipe's own test that fails: an unknown kind
 unfoldable pub unknown : List Test
 unknown = (false, Refusal.kind) ∷ []
 
--- the same of a recipe that is accepted, where nothing is lent
+-- the same where the recipe is accepted and nothing is lent
 unfoldable pub lentNothing : Limits → ℕ → Still → ℕ
-lentNothing m k s = number (lending (some k) (lent 0 0 0 0) (limitedAnswer m [] (some k) s))
+lentNothing m k s = number (lending (outlines k) (lent 0 0 0 0) (limitedAnswer m [] (outlines k) s))
 
 unfoldable pub rows : List Example
 rows =
@@ -58,7 +58,7 @@ rows =
     ∷ row "a recipe's own refusal comes before 28" (answers panel unknown 5 (picture 3 1 1) ∷ []) (13 ∷ [])
     ∷ row "28 comes before a still's refusal, and that before 29" (answers panel [] 5 (Still.Refused 5) ∷ answers panel [] 4 (Still.Refused 5) ∷ []) (28 ∷ 5 ∷ [])
     ∷ row "the panel takes 8,192 samples, however they lie" (answers panel [] 1 (picture 8192 1 1) ∷ answers panel [] 1 (picture 1 8192 1) ∷ answers panel [] 1 (picture 128 64 1) ∷ []) (0 ∷ 0 ∷ 0 ∷ [])
-    ∷ row "and no more: 91 by 91 are 8,281" (answers panel [] 1 (picture 91 91 1) ∷ answers panel [] 1 (picture 8192 2 1) ∷ []) (29 ∷ 29 ∷ [])
+    ∷ row "and no more: 2,731 by 3 are 8,193" (answers panel [] 1 (picture 2731 3 1) ∷ answers panel [] 1 (picture 91 91 1) ∷ answers panel [] 1 (picture 8192 2 1) ∷ []) (29 ∷ 29 ∷ 29 ∷ [])
     ∷ row "a plane counts: three of 4,096 are 12,288 in all" (answers panel [] 4 (picture 64 64 3) ∷ answers panel [] 4 (picture 91 91 3) ∷ []) (0 ∷ 29 ∷ [])
     ∷ row "the archive takes the largest still" (answers archive [] 8 (picture 8192 8192 3) ∷ []) (0 ∷ [])
     ∷ row "28 and 29 come before 20" (lentNothing panel 5 (picture 3 1 1) ∷ lentNothing panel 4 (picture 91 91 1) ∷ lentNothing panel 4 (picture 90 91 1) ∷ lentNothing archive 5 (picture 91 91 1) ∷ []) (28 ∷ 29 ∷ 20 ∷ 20 ∷ [])
@@ -67,7 +67,7 @@ rows =
 
 -- every definition that an example runs through, opened by one name
 opened : Unit {0}
-unfolding stage roomTests row some picture number answers unknown lentNothing
+unfolding stage roomTests row outlines picture number answers unknown lentNothing
 opened = tt
 
 -- THE WORKED EXAMPLES HOLD, by computation

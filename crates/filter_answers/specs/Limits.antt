@@ -8,7 +8,7 @@ use Rattle.refusals.specs.Refusal.{Test}
 use Rattle.model.specs.Stage.{Stage}
 use Rattle.filter_answers.specs.declared.Limits.{Limits}
 
--- these limits
+-- the limits of so many stages and so many samples a plane
 abbrev pub limits : ℕ → ℕ → Limits
 limits stages samples = record { stages = stages; samples = samples }
 
@@ -21,12 +21,12 @@ abbrev pub panel : Limits
 panel = limits 4 8192
 
 -- more stages than the limit are refused with 28
-abbrev pub stageTest : Limits → List Stage → Test
-stageTest m ts = (leb (length ts) (m .stages), Refusal.stageLimit)
+abbrev pub stageLimitTest : Limits → List Stage → Test
+stageLimitTest m ts = (leb (length ts) (m .stages), Refusal.stageLimit)
 
 -- more samples a plane than the limit are refused with 29, however many channels there are
-abbrev pub sampleTest : Limits → ℕ → ℕ → Test
-sampleTest m W H = (leb (W * H) (m .samples), Refusal.sampleLimit)
+abbrev pub sampleLimitTest : Limits → ℕ → ℕ → Test
+sampleLimitTest m W H = (leb (W * H) (m .samples), Refusal.sampleLimit)
 
 -- limits a that are at most b: neither number is larger
 pub record AtMost (a b : Limits) : Type 0 where

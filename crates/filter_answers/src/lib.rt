@@ -19,13 +19,13 @@ pub struct Limits {
     pub samples: usize,
 }
 
-// The archive's, and those of every call that takes none: no still that is read has more samples.
+// The archive's, and those of every call that takes none: no recipe that is accepted has more stages, and no still that is read more samples.
 pub const ARCHIVE: Limits = Limits {
     stages: 8,
     samples: 67108864,
 };
 
-// The bedside panel's.
+// The bedside panel's: the conformance program runs its vectors with them, and shows that they are those of the definitions.
 pub const PANEL: Limits = Limits {
     stages: 4,
     samples: 8192,
@@ -74,7 +74,7 @@ pub fn plane_answer(bytes: &[u8], w: usize, h: usize, samples: usize, lent: Lent
 fn still_answer(tolerance: u64, still: &[u8], limits: Limits) -> File
     ensures { λ r. ⌜ r ≡ stillAnswer limits tolerance (stillOf (now (still .entry))) ⌝ }
 {
-    let most = limits.samples;
+    let most_samples = limits.samples;
     match still_reader::read_still(still) {
         Still::Refused(n) => File::Refused(n),
         Still::Picture {
@@ -84,7 +84,7 @@ fn still_answer(tolerance: u64, still: &[u8], limits: Limits) -> File
             start: _,
         } => {
             let size = width * height;
-            if most < size {
+            if most_samples < size {
                 return File::Refused(refusals::SAMPLE_LIMIT);
             }
             let head = header_writer::header(width, height, channels);
@@ -104,11 +104,11 @@ fn still_answer(tolerance: u64, still: &[u8], limits: Limits) -> File
 pub fn picture_answer(bytes: &[u8], still: &[u8], limits: Limits) -> File
     ensures { λ r. ⌜ r ≡ pictureAnswer limits (now (bytes .entry)) (now (still .entry)) ⌝ }
 {
-    let most = limits.stages;
+    let most_stages = limits.stages;
     match recipe::read_recipe(bytes) {
         Recipe::Refused(n) => File::Refused(n),
         Recipe::Stages { count, tolerance } => {
-            if most < count as usize {
+            if most_stages < count as usize {
                 return File::Refused(refusals::STAGE_LIMIT);
             }
             still_answer(tolerance, still, limits)

@@ -1,4 +1,4 @@
--- `filter_answers::picture_answer` meets its contract: the recipe's tests, then the still's. Assumes nothing.
+-- `filter_answers::picture_answer` meets its contract: the recipe's tests, then the limit on stages, then the still's. Assumes nothing.
 use native.Mathlib.Omega.{arith}
 use mathlib.Core.Path.{sym, _∙_}
 use denote.Ref.{now}
