@@ -23,12 +23,7 @@ fn refused(number: u32) -> Answer {
 }
 
 /// With limits, or by the call that takes none.
-fn in_lent_memory(
-    recipe: &[u8],
-    still: &[u8],
-    limits: Option<Limits>,
-    lengths: Lengths,
-) -> Answer {
+fn in_lent_memory(recipe: &[u8], still: &[u8], limits: Option<Limits>, lengths: Lengths) -> Answer {
     let (mut work, mut rows) = (vec![170; lengths.work], vec![-7; lengths.rows]);
     let (mut sums, mut out) = (vec![7; lengths.sums], vec![85; lengths.out]);
     let lent = Lent {
@@ -37,9 +32,7 @@ fn in_lent_memory(
         sums: &mut sums,
     };
     let answer = match limits {
-        Some(limits) => {
-            hejslopi::filter_file_limited_into(recipe, still, limits, lent, &mut out)
-        }
+        Some(limits) => hejslopi::filter_file_limited_into(recipe, still, limits, lent, &mut out),
         None => hejslopi::filter_file_into(recipe, still, lent, &mut out),
     };
     match answer {
@@ -107,7 +100,11 @@ fn tried(folder: &Path) {
         assert!(found == expected, "{name}: {}", found.0);
         if limits == Limits::ARCHIVE {
             let found = in_lent_memory(&recipe, &still, None, lengths);
-            assert!(found == expected, "{name}, by the call without limits: {}", found.0);
+            assert!(
+                found == expected,
+                "{name}, by the call without limits: {}",
+                found.0
+            );
         }
         let found = by_the_plain_reading(&recipe, &still, limits, lengths);
         assert!(
@@ -171,7 +168,8 @@ fn limited_files_are_filtered_alike() {
 fn wider_limits_change_nothing_that_is_accepted() {
     compare("wider limits", 4_000, |rng, tally| {
         let (recipe, still, need) = inputs::file(rng, 300_000);
-        let lengths = rng.pick(&inputs::lengths(rng, need));
+        let all = inputs::lengths(rng, need);
+        let lengths = rng.pick(&all);
         let [stages, samples] = limits(rng, &recipe, &still);
         let narrow = Limits { stages, samples };
         let wide = Limits {
