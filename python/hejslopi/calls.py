@@ -200,12 +200,12 @@ def filter_plane(plane: BytesLike, width: int, height: int, recipe: BytesLike) -
     return FilteredPlane(bytes(out), result[0])
 
 
-def over_limits(number: int, recipe: bytes, still: bytes, limits: Limits) -> Refusal:
+def over_limits(number: int, recipe: bytes, still: bytes, most: Limits) -> Refusal:
     """The refusal of a recipe that is accepted, or of a still that is read, by a caller's limits."""
     if number == STAGE_LIMIT:
-        return Refusal(number, "found %d, allowed: at most %d" % (recipe[0], limits.stages))
+        return Refusal(number, "found %d, allowed: at most %d" % (recipe[0], most.stages))
     width, height = read_still(still)[:2]
-    return Refusal(number, "found %d by %d, which are %d, allowed: at most %d" % (width, height, width * height, limits.samples))
+    return Refusal(number, "found %d by %d, which are %d, allowed: at most %d" % (width, height, width * height, most.samples))
 
 
 def filter_file(still: BytesLike, recipe: BytesLike, limits: Sequence[int] = ARCHIVE) -> FilteredFile:
@@ -216,12 +216,12 @@ def filter_file(still: BytesLike, recipe: BytesLike, limits: Sequence[int] = ARC
     The limits are how many stages the recipe may have and how many samples a plane of the still, at most: more are refused with 28 and 29. What they let by comes
     out as without them.
     """
-    still, recipe, limits = taken("still", still), taken("recipe", recipe), limits_for(limits)
-    run = "hejslopi_filter_file_limited", recipe, still, *limits
+    still, recipe, most = taken("still", still), taken("recipe", recipe), limits_for(limits)
+    run = "hejslopi_filter_file_limited", recipe, still, *most
     # Room is tested last, so a call that is lent nothing gives any other refusal there is.
     number = call(*run, *lent([], 0, 0), room(0), results(5))
     if number in (STAGE_LIMIT, SAMPLE_LIMIT):
-        raise over_limits(number, recipe, still, limits)
+        raise over_limits(number, recipe, still, most)
     if number != ROOM:
         done(number, recipe, still)
     width, height, channels, _ = read_still(still)

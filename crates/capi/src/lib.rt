@@ -66,34 +66,7 @@ pub extern "C" fn hejslopi_filter_plane(
     )
 }
 
-// Filter a file with the archive's limits: width, height, channels, T and the output's length.
-#[no_mangle]
-pub extern "C" fn hejslopi_filter_file(
-    recipe: &[u8],
-    still: &[u8],
-    work: &mut [u8],
-    rows: &mut [i32],
-    sums: &mut [u32],
-    out: &mut [u8],
-    result: &mut [u64; 5],
-) -> u32
-    ensures { λ r. ⌜ FiltersFile archive (now (recipe .entry)) (now (still .entry)) (now (work .entry)) (now (work .exit)) (now (rows .entry)) (now (rows .exit)) (now (sums .entry)) (now (sums .exit)) (now (out .entry)) (now (out .exit)) (now (result .entry)) (now (result .exit)) r ⌝ }
-{
-    told::file(
-        file_filter::filter_file(
-            recipe,
-            still,
-            filter_answers::ARCHIVE,
-            work,
-            rows,
-            sums,
-            out,
-        ),
-        result,
-    )
-}
-
-// Filter a file with limits on the stages and on the samples a plane: the same.
+// Filter a file with limits on the stages and on the samples a plane: width, height, channels, T and the output's length.
 #[no_mangle]
 pub extern "C" fn hejslopi_filter_file_limited(
     recipe: &[u8],
@@ -118,6 +91,33 @@ pub extern "C" fn hejslopi_filter_file_limited(
             sums,
             out,
         ),
+        result,
+    )
+}
+
+// Filter a file with the archive's limits: the same.
+#[no_mangle]
+pub extern "C" fn hejslopi_filter_file(
+    recipe: &[u8],
+    still: &[u8],
+    work: &mut [u8],
+    rows: &mut [i32],
+    sums: &mut [u32],
+    out: &mut [u8],
+    result: &mut [u64; 5],
+) -> u32
+    ensures { λ r. ⌜ FiltersFile archive (now (recipe .entry)) (now (still .entry)) (now (work .entry)) (now (work .exit)) (now (rows .entry)) (now (rows .exit)) (now (sums .entry)) (now (sums .exit)) (now (out .entry)) (now (out .exit)) (now (result .entry)) (now (result .exit)) r ⌝ }
+{
+    let archive = filter_answers::ARCHIVE;
+    hejslopi_filter_file_limited(
+        recipe,
+        still,
+        archive.stages,
+        archive.samples,
+        work,
+        rows,
+        sums,
+        out,
         result,
     )
 }
