@@ -294,8 +294,8 @@ def mean_by_numpy(stills):
     return numpy.floor(stills.mean(axis=0) + 0.5).astype(numpy.uint8)
 
 
-# The two edges of movement, in whole levels: beyond the first a sample has moved, and up to the second it is still. T is document 01's, of both stills alike.
-TOLERANCES = {"binomial 3x3": 34811, "outline": 0}
+# The two edges of movement, in whole levels: beyond the first a sample has moved, and up to the second it is still. T is documents 01 and 02's, of both stills alike.
+TOLERANCES = {"binomial 3x3": 33280, "outline": 0}
 
 
 def edges(work):

@@ -136,8 +136,8 @@ class Calls(unittest.TestCase):
 
     def test_bytes_like(self):
         for kind in (bytes, bytearray, memoryview, lambda data: array.array("B", data), lambda data: memoryview(data + data)[:len(data)]):
-            self.assertEqual(hejslopi.filter_file(kind(STILL), kind(RECIPE)), (b"P5\n3 1\n255\n\x0D\x17\x23", 34301))
-            self.assertEqual(hejslopi.filter_plane(kind(STILL[-3:]), 3, 1, kind(RECIPE)), (b"\x0D\x17\x23", 34301))
+            self.assertEqual(hejslopi.filter_file(kind(STILL), kind(RECIPE)), (b"P5\n3 1\n255\n\x0D\x17\x23", 33280))
+            self.assertEqual(hejslopi.filter_plane(kind(STILL[-3:]), 3, 1, kind(RECIPE)), (b"\x0D\x17\x23", 33280))
             self.assertEqual(hejslopi.write_still(3, 1, 1, kind(STILL[-3:])), STILL)
 
     def test_numbers_only(self):
@@ -291,7 +291,7 @@ class Backgrounds(unittest.TestCase):
                     answer, expected = self.answer(background.remove, number), plain.remove(number)
                 else:
                     samples = bytes(chance.choices(range(256), k=chance.choice((3, 3, 3, 3, 3, 3, 2))))
-                    tolerance = chance.choice((0, 34301, 98060, 16678912, 4294967295))
+                    tolerance = chance.choice((0, 33280, 98060, 16678912, 4294967295))
                     answer, expected = self.answer(background.add, grey(*samples), number, tolerance), plain.add(samples, number, tolerance)
                 self.assertEqual(answer, expected)
                 self.assertEqual((background.mean(), len(background)), (plain.mean(), len(plain.stills)))
@@ -423,15 +423,15 @@ class Backgrounds(unittest.TestCase):
 
 
 class Movements(unittest.TestCase):
-    # Filtered by the binomial of RECIPE they are 13 23 35 and 13 43 95, with T 34301: 1.047 levels for both.
+    # Filtered by the binomial of RECIPE they are 13 23 35 and 13 43 95, with T 33280: 1.016 levels for both.
     AFTER = grey(10, 20, 120)
     # Ranks of one sample, T 0, and a box of one sample, T 32768.
     EXACT, HALF = bytes.fromhex("01 05 01 00 00 00 00 01"), bytes.fromhex("01 04 01 00 00 00")
 
     def test_by_hand(self):
         seen = hejslopi.movement(STILL, RECIPE, self.AFTER, RECIPE, 19)
-        self.assertEqual(seen, (1, 1, 1, 34301, 34301, grey(13, 23, 35), grey(13, 43, 95)))
-        self.assertEqual((seen.moved, seen.still, seen.open, seen.tolerance1, seen.tolerance2), (1, 1, 1, 34301, 34301))
+        self.assertEqual(seen, (1, 1, 1, 33280, 33280, grey(13, 23, 35), grey(13, 43, 95)))
+        self.assertEqual((seen.moved, seen.still, seen.open, seen.tolerance1, seen.tolerance2), (1, 1, 1, 33280, 33280))
         self.assertEqual((seen.picture1, seen.picture2), (grey(13, 23, 35), grey(13, 43, 95)))
         self.assertEqual(hejslopi.movement(STILL, self.EXACT, self.AFTER, self.HALF, 80), (0, 2, 1, 0, 32768, STILL, self.AFTER))
         self.assertEqual(hejslopi.movement(STILL, self.HALF, self.AFTER, self.EXACT, 79)[:5], (1, 2, 0, 32768, 0))
@@ -581,7 +581,7 @@ class Recipes(unittest.TestCase):
 
     def test_accepted(self):
         stages = [{"kind": "binomial", "across": 1, "down": 1}, {"kind": "box", "across": 1, "down": 1}]
-        self.assertEqual(hejslopi.read_recipe(hejslopi.recipe(stages)), (2, 67579))
+        self.assertEqual(hejslopi.read_recipe(hejslopi.recipe(stages)), (2, 66048))
 
     def test_rounded_weights(self):
         """0.1 lies between 13421772 and 13421773 over 2^27, and is nearer to the second. A quarter is held as it is."""
@@ -621,9 +621,19 @@ class Recipes(unittest.TestCase):
         first, box, *outlines = hejslopi.explain(bytes.fromhex("06 06 03 00 04 01 00 01 01" + 4 * "06 00 07"))["stages"]
         self.assertEqual([first["tolerance"], box["tolerance"], "growth" in box], [0, 32768, False])
         self.assertEqual([stage["tolerance"] for stage in outlines], [6 * 32768, 36 * 32768, 216 * 32768, 255 * 65536])
-        axis = {"offsets": [-1, 0, 1], "sum": None, "gain": None}
+        axis = {"offsets": [-1, 0, 1], "sum": None, "gain": None, "rounded": None}
         for stage in outlines:
             self.assertEqual([stage[name] for name in ("kind", "border", "border_value", "across", "down", "growth")], ["outline", "constant", 7, axis, axis, 6])
+
+
+    def test_explained_rounding(self):
+        """Of 1 2 3 over 6 a half is whole in 65,536ths; of -1 0 1 over 3 the 0 is; 0.5 is, and 0.1 as binary32 is not; of the binomials all are up to radius 8."""
+        ratios = {"kind": "ratios", "across": {"over": 6, "taps": {"left": 1, "here": 2, "right": 3}}, "down": {"over": 3, "taps": {"up": -1, "here": 0, "down": 1}}}
+        reals = {"kind": "reals", "across": {"here": 0.5}, "down": {"here": 0.1}}
+        binomials = [{"kind": "binomial", "across": across, "down": down} for across, down in ((8, 9), (10, 15))]
+        stages = hejslopi.explain(hejslopi.recipe([ratios, reals, *binomials, {"kind": "box", "across": 1, "down": 1}]))["stages"]
+        found = [(stage["across"]["rounded"], stage["down"]["rounded"]) for stage in stages]
+        self.assertEqual(found, [(2, 2), (0, 1), (0, 8), (17, 31), (None, None)])
 
 
 class Faults(unittest.TestCase):

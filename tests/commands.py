@@ -77,7 +77,7 @@ def recipes_made(tally):
         written(os.path.join(room, "two.json"), b'[{"kind": "binomial", "across": 1, "down": 1},\n {"kind": "box", "across": 1, "down": 1}]\n')
         written(os.path.join(room, "old"), OLD)
         for name in ("new", "old"):
-            tally.equal("recipe into %s" % name, run(["recipe", "two.json", name], room), Answer(0, "stages 2 T 67579\n", ""))
+            tally.equal("recipe into %s" % name, run(["recipe", "two.json", name], room), Answer(0, "stages 2 T 66048\n", ""))
             tally.equal("recipe into %s: bytes" % name, bytes_of(os.path.join(room, name)), TWO_STAGES)
         written(os.path.join(room, "real.json"), (descriptions.REALS % '{"left": 0.1, "here": 0.25}').encode())
         note = 'hejslopi: real.json: stage 1, across, tap "left": 0.1 is held as 0.10000000149011612, the nearest binary32\n'
@@ -109,22 +109,22 @@ def recipes_made(tally):
 
 
 def explained(tally):
-    """The words of the table, with sums, gains and T worked by hand or taken from document 01's examples."""
+    """The words of the table, with sums, gains, rounded weights and T worked by hand or taken from the documents' examples."""
     with folders.fresh_folder() as room:
         for name, data in (("two", TWO_STAGES), ("sharpen", SHARPEN), ("loud", LOUD), ("rank", bytes.fromhex("01 05 00 07 01 02 00 08"))):
             written(os.path.join(room, name), data)
         answer = run(["explain", "two"], room)
         rows = [line.split() for line in answer.stdout.splitlines()]
         axis = ["3", "at", "-1", "to", "1", "1", "1"]
-        tally.equal("explain: a binomial", rows[1], ["1", "binomial", "nearest"] + 2 * axis + ["34811", "0.5312"])
-        # 67,579 over 65,536 is 1.03117.., rounded up since it bounds. Twice that is 2.06234..: rounded down, so that what is said of limits below stays true.
-        tally.equal("explain: a box", rows[2], ["2", "box", "nearest"] + 2 * axis + ["67579", "1.0312"])
+        tally.equal("explain: a binomial", rows[1], ["1", "binomial", "nearest"] + 2 * (axis + ["0"]) + ["33280", "0.5079"])
+        # 66,048 over 65,536 is 1.00781.., rounded up since it bounds. Twice that is 2.01562..: rounded down, so that what is said of limits below stays true.
+        tally.equal("explain: a box", rows[2], ["2", "box", "nearest"] + 2 * (axis + ["-"]) + ["66048", "1.0079"])
         last = answer.stdout.splitlines()[-1]
-        tally.equal("explain: the movement limit", ["2 T/65,536: 2.0623 grey levels, so 3 as" in last, answer.status, answer.stderr], [True, 0, ""])
-        tally.equal("explain: ratios", run(["explain", "sharpen"], room).stdout.splitlines()[1].split()[:15],
-                    "1 ratios mirror 3 at -1 to 1 1 1.5 1 at 0 1 1".split())
+        tally.equal("explain: the movement limit", ["2 T/65,536: 2.0156 grey levels, so 3 as" in last, answer.status, answer.stderr], [True, 0, ""])
+        tally.equal("explain: ratios", run(["explain", "sharpen"], room).stdout.splitlines()[1].split()[:17],
+                    "1 ratios mirror 3 at -1 to 1 1 1.5 0 1 at 0 1 1 0".split())
         tally.equal("explain: a rank", run(["explain", "rank"], room).stdout.splitlines()[1].split(),
-                    "1 rank 8 of 15 constant 7 3 at -1 to 1 - - 5 at -2 to 2 - - 0 0.0000".split())
+                    "1 rank 8 of 15 constant 7 3 at -1 to 1 - - - 5 at -2 to 2 - - - 0 0.0000".split())
         explained_outlines(tally, room)
         tally.equal("explain: T 0", run(["explain", "rank"], room).stdout.splitlines()[-1], "T is 0: every sample is the exact result.")
         tally.equal("explain: T at its most", "it says nothing" in run(["explain", "loud"], room).stdout.splitlines()[-1], True)
@@ -136,7 +136,7 @@ def explained_outlines(tally, room):
     """T of a box is half a grey level, and the outline behind it makes three of it. One sentence says so, and none where there is no outline."""
     written(os.path.join(room, "outlined"), OUTLINED)
     lines = run(["explain", "outlined"], room).stdout.splitlines()
-    axes = 2 * ["3", "at", "-1", "to", "1", "-", "-"]
+    axes = 2 * ["3", "at", "-1", "to", "1", "-", "-", "-"]
     tally.equal("explain: an outline", lines[1].split(), ["1", "outline", "constant", "7"] + axes + ["0", "0.0000"])
     tally.equal("explain: an outline behind a box", lines[3].split(), ["3", "outline", "wrap"] + axes + ["196608", "3.0000"])
     said = [sum("Behind an outline T is 6 times" in line for line in run(["explain", name], room).stdout.splitlines()) for name in ("outlined", "two")]
@@ -148,10 +148,10 @@ def explained_to_programs(tally, room):
     told = json.loads(run(["explain", "--json", "sharpen"], room).stdout)
     stage = told["stages"][0]
     tally.equal("explain --json: ratios", [stage["kind"], stage["border"], stage["across"], stage["down"]["offsets"]],
-                ["ratios", "mirror", {"offsets": [-1, 0, 1], "sum": "1", "gain": "1.5"}, [0]])
+                ["ratios", "mirror", {"offsets": [-1, 0, 1], "sum": "1", "gain": "1.5", "rounded": 0}, [0]])
     told = json.loads(run(["explain", "two", "--json"], room).stdout)
     tally.equal("explain --json: T", [[stage["tolerance"] for stage in told["stages"]], told["tolerance"], told["grey_levels"], told["least_movement_limit"]],
-                [[34811, 67579], 67579, 67579 / 65536, 67579 / 32768])
+                [[33280, 66048], 66048, 66048 / 65536, 66048 / 32768])
     told = json.loads(run(["explain", "loud", "--json"], room).stdout)
     tally.equal("explain --json: T at its most", [told["tolerance"], told["says_nothing"]], [16711680, True])
     stages = json.loads(run(["explain", "outlined", "--json"], room).stdout)["stages"]
@@ -159,8 +159,9 @@ def explained_to_programs(tally, room):
     # Weights 1/3 of ratios, and of reals the binary32 next to 0.1 and 1/4: 13421773/2^27 + 1/4 = 46976205/2^27.
     written(os.path.join(room, "thirds"), bytes.fromhex("01 01 01 00 02 01 00 03 00 01 00 01 00 00 01 00 01 00 01"))
     written(os.path.join(room, "tenth"), bytes.fromhex("01 02 01 00 02 01 00 01 00 3D CC CC CD 3E 80 00 00 3F 80 00 00"))
-    sums = [json.loads(run(["explain", name, "--json"], room).stdout)["stages"][0]["across"]["sum"] for name in ("thirds", "tenth")]
-    tally.equal("explain --json: exact sums", sums, ["2/3", "46976205/134217728"])
+    across = [json.loads(run(["explain", name, "--json"], room).stdout)["stages"][0]["across"] for name in ("thirds", "tenth")]
+    tally.equal("explain --json: exact sums", [axis["sum"] for axis in across], ["2/3", "46976205/134217728"])
+    tally.equal("explain --json: rounded weights", [axis["rounded"] for axis in across], [2, 1])
     tally.equal("explain: a sum that is shortened", run(["explain", "tenth"], room).stdout.splitlines()[1].split()[8], "~0.35")
 
 
@@ -189,15 +190,15 @@ def many(tally):
         written(os.path.join(room, "bad.pgm"), b"P5\n3 1\n255\nab")
         written(os.path.join(room, "recipe"), program.RECIPE)
         answer = run(["filter", "recipe", "a.pgm", "b.pgm", "--into", "good"], room)
-        tally.equal("many", answer, Answer(0, "good/a.pgm T 34301\ngood/b.pgm T 34301\n", ""))
+        tally.equal("many", answer, Answer(0, "good/a.pgm T 33280\ngood/b.pgm T 33280\n", ""))
         tally.equal("many: files", {name: bytes_of(os.path.join(room, "good", name)) for name in os.listdir(os.path.join(room, "good"))},
                     {"a.pgm": program.OUT, "b.pgm": program.OUT})
         os.mkdir(os.path.join(room, "there"))
         answer = run(["filter", "recipe", "bad.pgm", "--into=there", "a.pgm"], room)
         tally.equal("many, one refused", (answer.status, answer.stdout, answer.stderr.count("\n"), "bad.pgm: refused with 5" in answer.stderr),
-                    (1, "there/a.pgm T 34301\n", 1, True))
+                    (1, "there/a.pgm T 33280\n", 1, True))
         answer = run(["filter", "--into", "there", "recipe", "none.pgm", "bad.pgm", "c.pgm"], room)
-        tally.equal("many, one missing", (answer.status, answer.stdout, answer.stderr.count("\n")), (2, "there/c.pgm T 34301\n", 2))
+        tally.equal("many, one missing", (answer.status, answer.stdout, answer.stderr.count("\n")), (2, "there/c.pgm T 33280\n", 2))
         tally.equal("many, some refused: files", sorted(os.listdir(os.path.join(room, "there"))), ["a.pgm", "c.pgm"])
         many_refused(tally, room)
         bar(tally, room)
@@ -250,15 +251,15 @@ def bar(tally, room):
     tally.equal("many on a narrow terminal", (answer.status, "[" in narrow.replace("\033[K", ""), max(map(len, narrow.replace("\033[K", "").split("\r")[:-2]))), (0, False, 4))
     answer, shown = on_terminal(["filter", "recipe", "a.pgm", "bad.pgm", "b.pgm", "--into", "shown"], room, 80)
     steps = [step in shown for step in ("] 0 of 3", "] 1 of 3", "] 2 of 3", "] 3 of 3")]
-    tally.equal("many on a terminal", (answer.status, steps, shown.split("\r")[-2].strip("\033[K"), "T 34301" in shown), (1, [True] * 4, "2 of 3 filtered into shown", False))
+    tally.equal("many on a terminal", (answer.status, steps, shown.split("\r")[-2].strip("\033[K"), "T 33280" in shown), (1, [True] * 4, "2 of 3 filtered into shown", False))
 
 
 # ---- movement
 
 
-# Three samples that the binomial of program.RECIPE makes 13 43 95, beside the 13 23 35 of program.STILL, with 1.047 levels for both T.
+# Three samples that the binomial of program.RECIPE makes 13 43 95, beside the 13 23 35 of program.STILL, with 1.016 levels for both T.
 AFTER = b"P5\n3 1\n255\n" + bytes([10, 20, 120])
-LINE = "moved 1 still 1 open 1 T 34301 34301\n"
+LINE = "moved 1 still 1 open 1 T 33280 33280\n"
 MARKED = b"P6\n3 1\n255\n" + bytes([13, 13, 13, 255, 255, 0, 255, 0, 0])
 
 
@@ -269,7 +270,7 @@ def movement(tally):
             written(os.path.join(room, name), data)
         tally.equal("movement", run(["movement", "a.pgm", "b.pgm", "recipe", "19"], room), Answer(0, LINE, ""))
         tally.equal("movement: files", sorted(os.listdir(room)), ["a.pgm", "b.pgm", "old", "recipe"])
-        tally.equal("movement from a still to itself", run(["movement", "a.pgm", "a.pgm", "recipe", "0019"], room).stdout, "moved 0 still 3 open 0 T 34301 34301\n")
+        tally.equal("movement from a still to itself", run(["movement", "a.pgm", "a.pgm", "recipe", "0019"], room).stdout, "moved 0 still 3 open 0 T 33280 33280\n")
         for words, name in ((["--picture", "new.ppm"], "new.ppm"), (["--picture=old"], "old")):
             tally.equal("movement into %s" % name, run(["movement"] + words + ["a.pgm", "b.pgm", "recipe", "19"], room), Answer(0, LINE, ""))
             tally.equal("movement into %s: bytes" % name, bytes_of(os.path.join(room, name)), MARKED)
@@ -412,7 +413,7 @@ def pip_installs(tally):
             return
         answer = run(["explain", "recipe"], room, command=[os.path.join(target, "bin", "hejslopi")], PYTHONPATH=target, PATH="/nowhere")
         tally.equal("the installed package's types", os.path.exists(os.path.join(target, "hejslopi", "py.typed")), True)
-        tally.equal("the installed command", (answer.status, answer.stderr, answer.stdout.splitlines()[2].split()[-2:]), (0, "", ["67579", "1.0312"]))
+        tally.equal("the installed command", (answer.status, answer.stderr, answer.stdout.splitlines()[2].split()[-2:]), (0, "", ["66048", "1.0079"]))
 
 
 def try_commands(tally):

@@ -21,7 +21,7 @@ STILL_LIMIT, RECIPE_LIMIT = 65536, 4096
 # The example of 'The program'.
 STILL = b"P5\n3 1\n255\n\x0A\x14\x28"
 RECIPE = b"\x01\x03\x01\x00\x01\x00"
-LINE = "ok 3 1 1 34301"
+LINE = "ok 3 1 1 33280"
 OUT = b"P5\n3 1\n255\n\x0D\x17\x23"
 
 # A run that takes longer than this many seconds has failed, and so has one that wants more bytes, in a file or in memory.

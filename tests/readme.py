@@ -234,7 +234,7 @@ def python_commands_on(tally, room):
     again, before = (folders.lies_at(os.path.join(room, name)).bytes for name in ("again.recipe", "denoise.recipe"))
     tally.equal("a recipe described and made again", again, before)
     command, _ = command_of(lines, COMMAND + " filter denoise.recipe")
-    tally.equal(command, says(command, room), (0, "filtered/later.pgm T 34811\nfiltered/still.pgm T 34811\n"))
+    tally.equal(command, says(command, room), (0, "filtered/later.pgm T 33280\nfiltered/still.pgm T 33280\n"))
     wrong = found(r"answered with its place: `([^`]+)`", section("From Python"), "answer to a wrong description")
     written(os.path.join(room, "wrong.json"), b'[{"kind": "binomail", "across": 1, "down": 1}]')
     tally.equal("a wrong description", says(COMMAND + " recipe wrong.json wrong", room), (1, "hejslopi: wrong.json: %s\n" % wrong))

@@ -131,8 +131,9 @@ decided. With --picture, writes the first filtered still into OUT as a P6 file: 
 A file that was there before is replaced as a whole, or is left as it was.""", count_movement),
     "explain": Word(("explain RECIPE [--json]",), 1, ("--json",), """\
 Prints what a recipe does: for each stage its kind, its border, how many offsets it looks at, from which to which, the sum and the gain of its weights
-on each axis (`-` for a rank and an outline, which have none), and T after it, in 65,536ths and in grey levels; then what an outline does to T, and what T
-means for a movement limit. `~` marks a number that is shortened. With --json the same for programs, sums and gains as exact texts.""", explain),
+on each axis (`-` for a rank and an outline, which have none), how many of these are no whole number of 65,536ths and so are rounded (`-` also for a box), and T
+after it, in 65,536ths and in grey levels; then what an outline does to T, and what T means for a movement limit. `~` marks a number that is shortened. With
+--json the same for programs, sums and gains as exact texts.""", explain),
     "describe": Word(("describe RECIPE",), 1, (), """\
 Prints a description of a recipe, in JSON, that gives the same bytes. A weight is shown as it is held.""", describe),
 }

@@ -5,10 +5,8 @@ from typing import Any, Dict, List
 
 from .calls import BytesLike, read_recipe, taken
 from .describing import stage_described, stages_of
-from .kernels import OUTLINE_GROWTH, OUTLINE_OFFSETS, fraction_text, gain, short_text, weights, window
+from .kernels import OUTLINE_GROWTH, OUTLINE_OFFSETS, UNITS, fraction_text, gain, rounded, short_text, weights, window
 from .stage_bytes import AXES, Stage
-
-UNITS = 65536
 
 # 255 grey levels: all that there are.
 MOST_TOLERANCE = 255 * UNITS
@@ -30,9 +28,14 @@ def offsets(stage: Stage, axis: str) -> List[int]:
 
 
 def axis_explained(stage: Stage, axis: str) -> Dict[str, Any]:
-    """The offsets of an axis, and exactly, as texts, the sum and the gain of its weights. A rank and an outline have none."""
+    """The offsets of an axis, exactly, as texts, the sum and the gain of its weights, and how many of them are rounded. A rank and an outline have none, and a box rounds none."""
     held = weights(stage, axis)
-    return {"offsets": offsets(stage, axis), "sum": fraction_text(sum(held)) if held else None, "gain": fraction_text(gain(stage, axis)) if held else None}
+    return {
+        "offsets": offsets(stage, axis),
+        "sum": fraction_text(sum(held)) if held else None,
+        "gain": fraction_text(gain(stage, axis)) if held else None,
+        "rounded": rounded(stage, axis),
+    }
 
 
 def stage_explained(recipe: bytes, stage: Stage) -> Dict[str, Any]:
@@ -53,7 +56,8 @@ def explain(recipe: BytesLike) -> Dict[str, Any]:
 
     `tolerance` is T in 65,536ths of a grey level, `grey_levels` the same in grey levels. Between two stills filtered by this recipe no sample can surely be
     still under a movement limit below `least_movement_limit`, in grey levels. `says_nothing`: T is all 255 grey levels. `growth`, of an outline: how many times
-    as large as before it makes T, up to all 255 grey levels.
+    as large as before it makes T, up to all 255 grey levels. `rounded`, of an axis: how many of its weights are no whole number of 65,536ths. These add to T,
+    and the others do not. A stage that puts no weights into 65,536ths has none.
     """
     given = taken("recipe", recipe)
     tolerance = read_recipe(given).tolerance
@@ -85,10 +89,15 @@ def axis_text(axis: Dict[str, Any]) -> str:
     return "%d at %d" % (count, first) if count == 1 else "%d at %d to %d" % (count, first, last)
 
 
+def axis_row(axis: Dict[str, Any]) -> List[str]:
+    sums = [short_text(axis[name] or "-") for name in ("sum", "gain")]
+    return [axis_text(axis), *sums, "-" if axis["rounded"] is None else str(axis["rounded"])]
+
+
 def row(stage: Dict[str, Any]) -> List[str]:
     kind = "rank %d of %d" % (stage["position"], stage["window"]) if "position" in stage else stage["kind"]
     border = "constant %d" % stage["border_value"] if stage["border"] == "constant" else stage["border"]
-    axes = [text for axis in AXES for text in (axis_text(stage[axis]), *(short_text(stage[axis][name] or "-") for name in ("sum", "gain")))]
+    axes = [text for axis in AXES for text in axis_row(stage[axis])]
     return [str(stage["stage"]), kind, border, *axes, str(stage["tolerance"]), levels_text(stage["tolerance"])]
 
 
@@ -99,7 +108,7 @@ def growth_of(stages: List[Dict[str, Any]]) -> List[str]:
     return ["Behind an outline T is %d times what it was before it, at most all 255 grey levels: each of its four sums weighs six samples by 1 or -1." % OUTLINE_GROWTH]
 
 
-HEADINGS = ["stage", "kind", "border", "across", "sum", "gain", "down", "sum", "gain", "T", "levels"]
+HEADINGS = ["stage", "kind", "border", "across", "sum", "gain", "rounded", "down", "sum", "gain", "rounded", "T", "levels"]
 
 
 def meaning_of(tolerance: int) -> List[str]:

@@ -1,10 +1,14 @@
-"""What a stage looks at, and with which weights: its window, and on each axis the sum and the gain, exactly."""
+"""What a stage looks at, and with which weights: its window, and on each axis the sum and the gain, exactly, and how many weights are rounded."""
 from __future__ import annotations
 
 from fractions import Fraction
-from typing import List
+from math import comb
+from typing import List, Optional
 
 from .stage_bytes import Stage
+
+# A weight counts 65,536ths, and so does T, of a grey level.
+UNITS = 65536
 
 # An outline has no weights on an axis: its four kernels look at 3 by 3 samples, and six weights of each are 1 or -1, the others 0.
 OUTLINE_OFFSETS, OUTLINE_GROWTH = (-1, 0, 1), 6
@@ -30,6 +34,18 @@ def weights(stage: Stage, axis: str) -> List[Fraction]:
 
 def gain(stage: Stage, axis: str) -> Fraction:
     return sum(map(abs, weights(stage, axis)), Fraction(0))
+
+
+def rounded(stage: Stage, axis: str) -> Optional[int]:
+    """How many weights of an axis are no whole number of 65,536ths, and so are rounded. None where a stage puts no weights into 65,536ths: of a box, a rank and an outline."""
+    if stage.kind == "binomial":
+        radius = int(stage.one("radius", axis))
+        held = [Fraction(comb(2 * radius, k), 4 ** radius) for k in range(2 * radius + 1)]
+    elif ("weight", axis) in stage.values:
+        held = weights(stage, axis)
+    else:
+        return None
+    return sum((UNITS * weight).denominator > 1 for weight in held)
 
 
 def fraction_text(value: Fraction) -> str:

@@ -5,7 +5,7 @@ import operator
 from typing import List
 
 from .calls import read_still, write_still
-from .explaining import UNITS
+from .kernels import UNITS
 from .moving import Movement
 
 # What samples tell. A pixel's is the bitwise or of its samples', so 3 is moved as well.

@@ -10,7 +10,7 @@
 //! let recipe = [1, 3, 1, 0, 1, 0]; // one stage: binomial, nearest, radius 1 across and 0 down
 //! let file = hejslopi::filter_file(&recipe, still)?;
 //! assert_eq!(file.bytes, b"P5\n3 1\n255\n\x0D\x17\x23");
-//! assert_eq!((file.width, file.height, file.channels, file.tolerance), (3, 1, 1, 34301));
+//! assert_eq!((file.width, file.height, file.channels, file.tolerance), (3, 1, 1, 33280));
 //! # Ok::<(), hejslopi::Refusal>(())
 //! ```
 

@@ -49,7 +49,7 @@ impl Pool {
             inputs::damage(rng, &mut still, header + 2);
         }
         let any = rng.next() as u32;
-        let tolerance = rng.pick(&[0, 1, 34301, 98060, 16_678_912, 16_678_913, u32::MAX, any]);
+        let tolerance = rng.pick(&[0, 1, 33280, 98060, 16_678_912, 16_678_913, u32::MAX, any]);
         (still, rng.pick(&self.numbers), tolerance)
     }
 }

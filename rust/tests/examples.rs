@@ -31,15 +31,15 @@ fn ratios(a: [i16; 3], d: u16) -> Vec<u8> {
 fn bench_stills() {
     assert_eq!(
         plane(&[1, 3, 1, 0, 1, 0], &BENCH),
-        (vec![13, 23, 35], 34301)
+        (vec![13, 23, 35], 33280)
     );
     assert_eq!(
         plane(&[1, 3, 0, 0, 1, 0], &BENCH),
-        (vec![10, 23, 25], 34301)
+        (vec![10, 23, 25], 33280)
     );
     assert_eq!(
         plane(&[1, 3, 3, 0, 1, 0], &BENCH),
-        (vec![20, 23, 28], 34301)
+        (vec![20, 23, 28], 33280)
     );
     assert_eq!(
         plane(&[1, 4, 1, 0, 1, 0], &BENCH),
@@ -64,9 +64,44 @@ fn bench_stills() {
         hejslopi::read_recipe(&[1, 3, 1, 0, 1, 1])
             .unwrap()
             .tolerance,
-        34811
+        33280
     );
-    assert_eq!(hejslopi::read_recipe(&two).unwrap().tolerance, 67579);
+    assert_eq!(hejslopi::read_recipe(&two).unwrap().tolerance, 66048);
+}
+
+/// T of a recipe.
+fn tolerance(recipe: &[u8]) -> u64 {
+    hejslopi::read_recipe(recipe).unwrap().tolerance
+}
+
+/// A stage of ratios, nearest: at -1 0 1 three weights over a divisor across, and three over another down.
+fn both_ways(across: [i16; 3], d: u16, down: [i16; 3], e: u16) -> Vec<u8> {
+    let mut recipe = vec![1, 1, 1, 0, 3, 3];
+    recipe.extend([d, e].iter().flat_map(|d| d.to_be_bytes()));
+    recipe.extend([255, 0, 1, 255, 0, 1]);
+    recipe.extend(across.iter().chain(&down).flat_map(|a| a.to_be_bytes()));
+    recipe
+}
+
+/// Request 2026-08, by hand: 512 and 32,768 for a gain of 1 down; for each rounded weight across 255, and for each down 255 and a little.
+#[test]
+fn only_rounded_weights_have_a_part_in_the_tolerance() {
+    let (quarters, thirds) = ([1, 2, 1], [1, 1, 1]);
+    assert_eq!(tolerance(&both_ways(quarters, 4, quarters, 4)), 33280);
+    assert_eq!(tolerance(&both_ways(thirds, 3, thirds, 3)), 34811);
+    assert_eq!(tolerance(&both_ways(quarters, 4, thirds, 3)), 34046);
+    assert_eq!(tolerance(&both_ways(thirds, 3, quarters, 4)), 34045);
+    assert_eq!(tolerance(&both_ways([-1, 0, 1], 3, quarters, 4)), 33790);
+    assert_eq!(tolerance(&both_ways([1, 2, 3], 6, quarters, 4)), 33790);
+    let real = |weight: f32| {
+        let one = 1f32.to_be_bytes();
+        [&[1, 2, 1, 0, 1, 1, 0, 0][..], &weight.to_be_bytes(), &one].concat()
+    };
+    assert_eq!(tolerance(&real(1.0 / 4096.0)), 33280);
+    assert_eq!(tolerance(&real(1.0 / 3.0)), 33535);
+    for (r, rounded) in (0..16).zip([0, 0, 0, 0, 0, 0, 0, 0, 0, 8, 17, 23, 25, 27, 29, 31]) {
+        assert_eq!(tolerance(&[1, 3, 1, 0, r, 0]), 33280 + 255 * rounded);
+    }
 }
 
 /// A stage of ratios, mirror: 1/1 at one offset across and at one down.

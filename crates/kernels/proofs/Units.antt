@@ -19,7 +19,7 @@ use Rattle.lists.specs.Count.{count}
 use Rattle.lists.proofs.Tabulate.{length-tabulate, tabulate-ext, mem-tabulate, entry-known}
 use Rattle.lists.proofs.Count.{count-ext}
 use Rattle.model.specs.Kernel.{tap, kernel, magnitude}
-use Rattle.model.specs.Apportion.{quotient, remainder, distance, nearer, comesBefore, servedBefore, getsUnit, share, apportion}
+use Rattle.model.specs.Apportion.{quotient, remainder, rounded, roundedTaps, distance, nearer, comesBefore, servedBefore, getsUnit, share, apportion}
 use Rattle.model.specs.Tolerance.{scaledGain}
 use Rattle.model_laws.proofs.Apportion.{lacking-by-remainders}
 use Rattle.stage_values.specs.Place.{offsetOf}
@@ -74,13 +74,20 @@ comes-is : (divisor : ℕ) (offsets values : List ℕ) (j i : ℕ)
 unfolding comesBefore nearer distance tapOf tap remainder before Held.nearer remainderOf
 comes-is divisor offsets values j i = rw (distance-is (getD offsets j 0), distance-is (getD offsets i 0), offset-lt (getD offsets j 0) (getD offsets i 0))
 
-count-map : {A : Type 0} (p : A → Bool) (f : ℕ → A) (xs : List ℕ) → count p (map f xs) ≡ count (λ j. p (f j)) xs
+count-map : {A B : Type 0} (p : B → Bool) (f : A → B) (xs : List A) → count p (map f xs) ≡ count (λ x. p (f x)) xs
 unfolding count
 count-map p f [] = refl
 count-map p f (x ∷ xs) = ap (λ (k : ℕ). cond (p (f x)) 1 0 + k) (count-map p f xs)
 
 count-tabulate : {A : Type 0} (p : A → Bool) (f : ℕ → A) (n : ℕ) → count p (tabulate f n) ≡ count (λ j. p (f j)) (tabulate (λ j. j) n)
 count-tabulate p f n = ap (count p) (sym (map-tabulate f (λ j. j) n)) ∙ count-map p f (tabulate (λ j. j) n)
+
+-- how many of the remainders are not 0
+pub rounded-is : (divisor : ℕ) (offsets values : List ℕ) (n : ℕ) → count (ltb 0) (tabulate (λ i. remainderOf (getD values i 0) divisor) n) ≡ roundedTaps (kernelOf divisor offsets values n)
+unfolding roundedTaps rounded kernelOf kernel remainder tapOf tap remainderOf
+rounded-is divisor offsets values n =
+    ap (count (ltb 0)) (sym (map-tabulate (remainder divisor) (tapOf offsets values) n))
+    ∙ count-map (ltb 0) (remainder divisor) (tabulate (tapOf offsets values) n)
 
 -- the remainders that the code holds are the model's
 module _ (divisor : ℕ) (offsets values rest : List ℕ) (n : ℕ) (e : take n rest ≡ tabulate (λ i. remainderOf (getD values i 0) divisor) n) where
@@ -130,19 +137,20 @@ module _ (divisor : ℕ) (offsets values : List ℕ) (n : ℕ) (l : Limits divis
   value-small i h = omega (arith, one-within divisor offsets values n l i h, abs-diff (getD values i 0) 274877906944, l .few)
 
 -- an axis of the code is the model's, and ready
-module _ (divisor : ℕ) (offsets values : List ℕ) (n m gain : ℕ) (weights : List ℤ) (l : Limits divisor offsets values n)
-    (e : take n weights ≡ map (λ t. t .weight) (apportion (kernelOf divisor offsets values n)))
+module _ (divisor : ℕ) (offsets values : List ℕ) (n m rounded gain : ℕ) (weights : List ℤ) (l : Limits divisor offsets values n)
+    (e : take n weights ≡ map (λ t. t .weight) (apportion (kernelOf divisor offsets values n))) (r : rounded ≡ roundedTaps (kernelOf divisor offsets values n))
     (f : m ≡ sum (tabulate (λ i. natAbs (numeratorOf (getD values i 0))) n)) (g : gain ≡ ceilDiv (65536 * m) divisor) where
   gain-is : gain ≡ scaledGain (kernelOf divisor offsets values n)
   unfolding kernelOf kernel scaledGain
   gain-is = g ∙ ap (λ (k : ℕ). ceilDiv (65536 * k) divisor) (f ∙ sym (magnitude-is offsets values n))
 
-  pub axis-ready : Ready (kernelOf divisor offsets values n) (record { offsets = offsets; weights = weights; len = n; gain = gain })
+  pub axis-ready : Ready (kernelOf divisor offsets values n) (record { offsets = offsets; weights = weights; len = n; rounded = rounded; gain = gain })
   unfolding kernelOf kernel tapOf tap scaledGain
   axis-ready = record {
     count = sym (length-tabulate (tapOf offsets values) n);
     places = sym (map-tabulate (λ t. t .offset) (tapOf offsets values) n);
     shares = e;
+    rounded = r;
     scaled-gain = gain-is;
     few = l .taps;
     near = l .near;

@@ -6,7 +6,7 @@ ghost use Prim.Native.Nat.{_*_, _^_, _≤_, _<_};
 ghost use lib.ListN.{length, take};
 ghost use lib.IntN.{pos, natAbs, _+ℤ_, _*ℤ_};
 ghost use Rattle.integers.specs.Divide.{floorDiv};
-ghost use Rattle.model.specs.Apportion.{apportion};
+ghost use Rattle.model.specs.Apportion.{roundedTaps, apportion};
 ghost use Rattle.numerators.specs.Numerator.{numeratorOf};
 ghost use Rattle.stage_values.specs.Ready.{Ready};
 ghost use Rattle.kernels.specs.Kernel.{kernelOf, Limits};
@@ -20,13 +20,21 @@ fn share(value: u64, divisor: u64, unit: u64) -> i32
     high as i32 - 262144
 }
 
+// The weights of an axis in 65,536ths, and how many of its taps are rounded.
+struct Apportioned {
+    weights: [i32; 31],
+    rounded: usize,
+}
+
 // The first n weights in 65,536ths.
-fn shares(values: &[u64], offsets: &[u8], n: usize, divisor: u64) -> [i32; 31]
+fn shares(values: &[u64], offsets: &[u8], n: usize, divisor: u64) -> Apportioned
     requires { ⌜ Limits divisor (now offsets) (now values) n ⌝ }
-    ensures { λ r. ⌜ (31 ≡ length r) × (take n r ≡ map (λ t. t .weight) (apportion (kernelOf divisor (now (offsets .entry)) (now (values .entry)) n))) ⌝ }
+    ensures { λ r. ⌜ (31 ≡ length (r .weights)) × (take n (r .weights) ≡ map (λ t. t .weight) (apportion (kernelOf divisor (now (offsets .entry)) (now (values .entry)) n))) × (r .rounded ≡ roundedTaps (kernelOf divisor (now (offsets .entry)) (now (values .entry)) n)) ⌝ }
 {
-    let rest = spare_units::remainders(values, n, divisor);
+    let left = spare_units::remainders(values, n, divisor);
+    let rest = left.rest;
     let lacking = spare_units::lacking_units(&rest, n, divisor);
+    let rounded = left.rounded;
     let mut weights = [0i32; 31];
     let mut i = 0;
     while i < n {
@@ -37,7 +45,7 @@ fn shares(values: &[u64], offsets: &[u8], n: usize, divisor: u64) -> [i32; 31]
         );
         i += 1;
     }
-    weights
+    Apportioned { weights, rounded }
 }
 
 // A kernel as it was read: offsets 15 too large, numerators 2^38 too large.
@@ -56,12 +64,15 @@ pub fn axis_of(k: Kernel) -> Axis
     let values = k.values;
     let len = k.len;
     let divisor = k.divisor;
-    let weights = shares(&values, &offsets, len, divisor);
+    let shared = shares(&values, &offsets, len, divisor);
     let gain = numerators::scaled_gain(numerators::magnitude(&values, len), divisor);
+    let weights = shared.weights;
+    let rounded = shared.rounded;
     Axis {
         offsets,
         weights,
         len,
+        rounded,
         gain,
     }
 }

@@ -53,3 +53,11 @@ share K t = tap (t .offset) (quotient (K .divisor) t +ℤ pos (cond (getsUnit K 
 -- the weights of a kernel in 65,536ths: A of the horizontal one, B of the vertical one
 unfoldable pub apportion : Kernel → List Tap
 apportion K = map (share K) (K .taps)
+
+-- whether a tap is rounded: its weight is no whole number of 65,536ths, and leaves a remainder
+unfoldable pub rounded : ℕ → Tap → Bool
+rounded D t = ltb 0 (remainder D t)
+
+-- how many taps of a kernel are rounded (request 2026-08)
+unfoldable pub roundedTaps : Kernel → ℕ
+roundedTaps K = count (rounded (K .divisor)) (K .taps)

@@ -1,5 +1,5 @@
 -- Worked examples. `bench` has the starred cases of 'Bench stills' and, not starred there, the T of its first line; `details` pins what those and the
--- tolerance leave open, `outlines` the kind of request 2026-01, and `symmetry` the order of service of request 2026-06.
+-- tolerance leave open, `outlines` the kind of request 2026-01, `symmetry` the order of service of request 2026-06, and `credit` the tolerance of request 2026-08.
 -- A row names the case, what the definitions give for its input, and what they should give. The theorem at the end goes over all rows.
 use Prim.Native.Nat.{ℕ, _^_}
 use Prim.Native.String.{String}
@@ -17,7 +17,7 @@ use Rattle.model.specs.Plane.{planeOf, around, pick}
 use Rattle.model.specs.Flip.{flipped, flippedSamples}
 use Rattle.model.specs.Kernel.{Kernel, tap, kernel, weightedSum, total, magnitude}
 use Rattle.model.specs.Binomial.{binomial, pairSums, pascalRow, choose}
-use Rattle.model.specs.Apportion.{apportion, quotient, remainder, wantedTotal, lacking, distance, nearer, comesBefore, servedBefore, getsUnit, share}
+use Rattle.model.specs.Apportion.{apportion, quotient, remainder, rounded, roundedTaps, wantedTotal, lacking, distance, nearer, comesBefore, servedBefore, getsUnit, share}
 use Rattle.model.specs.Symmetry.{symmetric, same, opposite, hasOpposite, unitsLeft, split, unsplit}
 use Rattle.model.specs.Weighted.{rowValue, weightedResult}
 use Rattle.model.specs.Window.{area, window}
@@ -32,6 +32,7 @@ pub data Answer : Type 0 where
   samples : List ℕ → Answer
   weights : List ℤ → Answer
   tolerances : List ℕ → Answer
+  counts : List ℕ → Answer
   verdicts : List Bool → Answer
   fractions : ℕ → List ℕ → Answer
 
@@ -81,7 +82,7 @@ bench =
     row "binomial r 1: nearest" (filtered 3 1 nearest 0 (weighted (binomial 1) (binomial 0)) (10 ∷ 20 ∷ 40 ∷ [])) (samples (13 ∷ 23 ∷ 35 ∷ []))
     ∷ row "binomial r 1: constant 0" (filtered 3 1 constant 0 (weighted (binomial 1) (binomial 0)) (10 ∷ 20 ∷ 40 ∷ [])) (samples (10 ∷ 23 ∷ 25 ∷ []))
     ∷ row "binomial r 1: wrap" (filtered 3 1 wrap 0 (weighted (binomial 1) (binomial 0)) (10 ∷ 20 ∷ 40 ∷ [])) (samples (20 ∷ 23 ∷ 28 ∷ []))
-    ∷ row "binomial r 1: T" (tolerances (toleranceOf (weighted (binomial 1) (binomial 0) ∷ []) ∷ [])) (tolerances (34301 ∷ []))
+    ∷ row "binomial r 1: T" (tolerances (toleranceOf (weighted (binomial 1) (binomial 0) ∷ []) ∷ [])) (tolerances (33280 ∷ []))
     ∷ row "box r 1, nearest" (filtered 3 1 nearest 0 (box 1 0) (10 ∷ 20 ∷ 40 ∷ [])) (samples (13 ∷ 23 ∷ 33 ∷ []))
     ∷ row "rank r 1, nearest: p 1" (filtered 3 1 nearest 0 (rank 1 0 1) (10 ∷ 20 ∷ 40 ∷ [])) (samples (10 ∷ 10 ∷ 20 ∷ []))
     ∷ row "rank r 1, nearest: p 2" (filtered 3 1 nearest 0 (rank 1 0 2) (10 ∷ 20 ∷ 40 ∷ [])) (samples (10 ∷ 20 ∷ 40 ∷ []))
@@ -91,7 +92,7 @@ bench =
     ∷ row "-1 -1 5 over 3" (apportioned (three 3 (minus 1) (minus 1) (pos 5))) (weights (minus 21845 ∷ minus 21845 ∷ pos 109226 ∷ []))
     ∷ row "binomial 1,1 then box"
     (tolerances (toleranceOf (weighted (binomial 1) (binomial 1) ∷ []) ∷ toleranceOf (weighted (binomial 1) (binomial 1) ∷ box 1 1 ∷ []) ∷ []))
-    (tolerances (34811 ∷ 67579 ∷ []))
+    (tolerances (33280 ∷ 66048 ∷ []))
     ∷ []
 
 -- taps a and b over D at offsets 0 and 1; a tap alone at 0
@@ -149,7 +150,7 @@ details =
     ∷ row "binomial r 2" (apportioned (binomial 2)) (weights (pos 4096 ∷ pos 16384 ∷ pos 24576 ∷ pos 16384 ∷ pos 4096 ∷ []))
     ∷ row "T of 4 over 1 both ways, four times"
     (tolerances (toleranceOf (quadruple ∷ []) ∷ toleranceOf (quadruple ∷ quadruple ∷ []) ∷ toleranceOf (quadruple ∷ quadruple ∷ quadruple ∷ []) ∷ toleranceOf (quadruple ∷ quadruple ∷ quadruple ∷ quadruple ∷ []) ∷ []))
-    (tolerances (36857 ∷ 626569 ∷ 10061961 ∷ 16711680 ∷ []))
+    (tolerances (34816 ∷ 591872 ∷ 9504768 ∷ 16711680 ∷ []))
     ∷ row "T of box, rank, 1 1 2 over 3 across with 1 1 over 3 down"
     (tolerances (toleranceOf (box 1 1 ∷ []) ∷ toleranceOf (box 1 1 ∷ rank 1 1 5 ∷ []) ∷ toleranceOf (box 1 1 ∷ rank 1 1 5 ∷ weighted (three 3 (pos 1) (pos 1) (pos 2)) (two 3 (pos 1) (pos 1)) ∷ []) ∷ []))
     (tolerances (32768 ∷ 32768 ∷ 63429 ∷ []))
@@ -178,7 +179,7 @@ smoothed ws = weighted (binomial 1) (binomial 1) ∷ ws
 -- Request 2026-01, worked by hand. The responses of the four kernels, in their order:
 -- 177, 24, 96, 140; 24, 207, -116, 160; 120, -76, 147, 24; -98, -140, 22, -177; 20, -20, 30, 0; and 270, 0, 180, 180, where 270 is clamped;
 -- one row of 10 20 40: with nearest and wrap it stands above and below too, and the first kernel gives three times the difference of the two sides; with constant 0 once;
--- 34,811 times 6, and again, until the fourth passes the cut; exact: 40, 230 and 420 thirds, whose differences are 190, 380 and 190, and 3·380 is clamped to 765.
+-- 33,280 times 6, and again, until the fourth passes the cut; exact: 40, 230 and 420 thirds, whose differences are 190, 380 and 190, and 3·380 is clamped to 765.
 unfoldable pub outlines : List Example
 outlines =
     row "the first kernel's" (outlined (1 ∷ 20 ∷ 60 ∷ 2 ∷ 30 ∷ 61 ∷ 3 ∷ 40 ∷ 62 ∷ [])) (samples (177 ∷ []))
@@ -194,7 +195,7 @@ outlines =
     ∷ row "T of an outline" (tolerances (toleranceOf (outline ∷ []) ∷ [])) (tolerances (0 ∷ []))
     ∷ row "T of binomial 1,1 and one to four outlines"
     (tolerances (toleranceOf (smoothed (outline ∷ [])) ∷ toleranceOf (smoothed (outline ∷ outline ∷ [])) ∷ toleranceOf (smoothed (outline ∷ outline ∷ outline ∷ [])) ∷ toleranceOf (smoothed (outline ∷ outline ∷ outline ∷ outline ∷ [])) ∷ []))
-    (tolerances (208866 ∷ 1253196 ∷ 7519176 ∷ 16711680 ∷ []))
+    (tolerances (199680 ∷ 1198080 ∷ 7188480 ∷ 16711680 ∷ []))
     ∷ row "exact box, then outline"
     (exactly 3 1 (stage nearest 0 (box 1 0) ∷ stage nearest 0 outline ∷ []) (10 ∷ 20 ∷ 200 ∷ []))
     (fractions 3 (570 ∷ 765 ∷ 570 ∷ []))
@@ -244,12 +245,50 @@ symmetry =
     ∷ row "1 2 3 / 4 5 6, flipped" (samples (flippedSamples 3 2 (1 ∷ 2 ∷ 3 ∷ 4 ∷ 5 ∷ 6 ∷ []))) (samples (3 ∷ 2 ∷ 1 ∷ 6 ∷ 5 ∷ 4 ∷ []))
     ∷ []
 
+-- a quarter, a half and a quarter
+unfoldable pub quarters : Kernel
+quarters = three 4 (pos 1) (pos 2) (pos 1)
+
+-- one binary32 weight at 0, by its numerator: 2^-12 is 2^23 over 2^35; 1/3, rounded to binary32, is 11,184,811 over 2^25, so 11,453,246,464 over 2^35
+unfoldable pub tinyReal : Kernel
+tinyReal = alone (2 ^ 35) (pos 8388608)
+
+unfoldable pub thirdReal : Kernel
+thirdReal = alone (2 ^ 35) (pos 11453246464)
+
+-- Request 2026-08, worked by hand. In units of 1/65,536, a quarter is 16,384, a half 32,768, 2^-12 is 16 and 0 is 0, all whole; 1/3 is 21,845 1/3, 1/6 is 10,922 2/3, and 1/3 as binary32 21,845 171/512;
+-- 1 2 3 over 6 is 1/6, 1/3 and 1/2: two are rounded, and the one unit that they lack goes to one of them;
+-- C(2r,k)/2^(2r) is whole for all r up to 8, and else where C(2r,k) is a multiple of 2^(2r-16): 11 of the 19 for r 9, 4 of the 21 for r 10, and none from r 11 on;
+-- T behind gains of 1: n rounded taps across add 255 n, and m down 255 m and what 255 n + 512 come to, m times, in 65,536ths, rounded up to 1; 512 and 32,768 are always there.
+-- So quarters 33,280, thirds 765 + 766 more, quarters across with thirds down 766, thirds across with quarters down 765, and two rounded taps across 510;
+-- 1/3 as binary32: 255 across; down, with g2 21,846, 512 become 170.7, and one tap adds 255 and what 512 65,536ths come to.
+unfoldable pub credit : List Example
+credit =
+    row "rounded taps: quarters; thirds; -1 -1 5 over 3; -1 0 1 over 3; 1 2 3 over 6; 2^-12 and 1/3 as binary32"
+    (counts (map roundedTaps (quarters ∷ three 3 (pos 1) (pos 1) (pos 1) ∷ three 3 (minus 1) (minus 1) (pos 5) ∷ three 3 (minus 1) (pos 0) (pos 1) ∷ three 6 (pos 1) (pos 2) (pos 3) ∷ tinyReal ∷ thirdReal ∷ [])))
+    (counts (0 ∷ 3 ∷ 3 ∷ 2 ∷ 2 ∷ 0 ∷ 1 ∷ []))
+    ∷ row "rounded taps: the binomials r 0 to 15" (counts (tabulate (λ r. roundedTaps (binomial r)) 16))
+    (counts (0 ∷ 0 ∷ 0 ∷ 0 ∷ 0 ∷ 0 ∷ 0 ∷ 0 ∷ 0 ∷ 8 ∷ 17 ∷ 23 ∷ 25 ∷ 27 ∷ 29 ∷ 31 ∷ []))
+    ∷ row "T of quarters, of thirds, both both ways"
+    (tolerances (toleranceOf (weighted quarters quarters ∷ []) ∷ toleranceOf (weighted (three 3 (pos 1) (pos 1) (pos 1)) (three 3 (pos 1) (pos 1) (pos 1)) ∷ []) ∷ []))
+    (tolerances (33280 ∷ 34811 ∷ []))
+    ∷ row "T of quarters across with thirds down, of thirds across with quarters down"
+    (tolerances (toleranceOf (weighted quarters (three 3 (pos 1) (pos 1) (pos 1)) ∷ []) ∷ toleranceOf (weighted (three 3 (pos 1) (pos 1) (pos 1)) quarters ∷ []) ∷ []))
+    (tolerances (34046 ∷ 34045 ∷ []))
+    ∷ row "T of -1 0 1 over 3, of 1 2 3 over 6, both across"
+    (tolerances (toleranceOf (weighted (three 3 (minus 1) (pos 0) (pos 1)) one ∷ []) ∷ toleranceOf (weighted (three 6 (pos 1) (pos 2) (pos 3)) one ∷ []) ∷ []))
+    (tolerances (33790 ∷ 33790 ∷ []))
+    ∷ row "T of 2^-12 across, of 1/3 across, of 1/3 down, as binary32"
+    (tolerances (toleranceOf (weighted tinyReal one ∷ []) ∷ toleranceOf (weighted thirdReal one ∷ []) ∷ toleranceOf (weighted one thirdReal ∷ []) ∷ []))
+    (tolerances (33280 ∷ 33535 ∷ 33195 ∷ []))
+    ∷ []
+
 -- every definition that an example runs through, opened by one name
 opened : Unit {0}
-unfolding modulo ceilDiv clamp sum sumℤ tabulate raster count inside closest folded supply planeOf pick around tap kernel weightedSum total magnitude pairSums pascalRow choose binomial quotient remainder wantedTotal lacking distance nearer comesBefore servedBefore getsUnit share apportion same opposite hasOpposite symmetric unitsLeft split unsplit flipped flippedSamples rowValue weightedResult area window boxResult insert sort smallest rankResult outlineKernels response largest edgeStrength outlineResult stage result stagePlane written scaledGain weightedGrowth growth afterStage toleranceFrom tolerance denominator numerator exactPlane exactFrom denominatorFrom exact exactDenominator row filtered exactly apportioned toleranceOf supplied minus three one two alone quadruple back outlined smoothed pair four thirds binomials allButFour
+unfolding modulo ceilDiv clamp sum sumℤ tabulate raster count inside closest folded supply planeOf pick around tap kernel weightedSum total magnitude pairSums pascalRow choose binomial quotient remainder rounded roundedTaps wantedTotal lacking distance nearer comesBefore servedBefore getsUnit share apportion same opposite hasOpposite symmetric unitsLeft split unsplit flipped flippedSamples rowValue weightedResult area window boxResult insert sort smallest rankResult outlineKernels response largest edgeStrength outlineResult stage result stagePlane written scaledGain weightedGrowth growth afterStage toleranceFrom tolerance denominator numerator exactPlane exactFrom denominatorFrom exact exactDenominator row filtered exactly apportioned toleranceOf supplied minus three one two alone quadruple back outlined smoothed pair four thirds binomials allButFour quarters tinyReal thirdReal
 opened = tt
 
 -- THE WORKED EXAMPLES HOLD, by computation
-pub examples-hold : map (λ e. e .found) (bench ++ details ++ outlines ++ symmetry) ≡ map (λ e. e .expected) (bench ++ details ++ outlines ++ symmetry)
-unfolding opened bench details outlines symmetry
+pub examples-hold : map (λ e. e .found) (bench ++ details ++ outlines ++ symmetry ++ credit) ≡ map (λ e. e .expected) (bench ++ details ++ outlines ++ symmetry ++ credit)
+unfolding opened bench details outlines symmetry credit
 examples-hold = refl

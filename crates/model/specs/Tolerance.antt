@@ -1,16 +1,16 @@
 -- 'Tolerance': the T of a list of stages, as a number of 65,536ths of a grey level.
 use Prim.Native.Nat.{ℕ, _+_, _*_, _^_, min}
 use mathlib.Core.List.{List, [], _∷_}
-use lib.ListN.{length}
 use Rattle.integers.specs.Divide.{ceilDiv}
 use Rattle.model.specs.Kernel.{Kernel, magnitude}
+use Rattle.model.specs.Apportion.{roundedTaps}
 use Rattle.model.specs.Stage.{Work, weighted, box, rank, outline, Stage}
 
 -- g1 of the horizontal kernel, g2 of the vertical one: 65,536 times its gain, rounded up
 unfoldable pub scaledGain : Kernel → ℕ
 scaledGain K = ceilDiv (65536 * magnitude (K .taps)) (K .divisor)
 
--- T' of n taps across and m down, each of its three divisions rounding up: g1·g2·T/2^32 + g2·(255n+512)/65,536 + m·(255·g1 + 255n + 512)/65,536 + 32,768
+-- T' of n rounded taps across and m down (request 2026-08), each of its three divisions rounding up: g1·g2·T/2^32 + g2·(255n+512)/65,536 + m·(255·g1 + 255n + 512)/65,536 + 32,768
 unfoldable pub weightedGrowth : ℕ → ℕ → ℕ → ℕ → ℕ → ℕ
 weightedGrowth g1 g2 n m T =
     ceilDiv (g1 * g2 * T) (2 ^ 32)
@@ -20,7 +20,7 @@ weightedGrowth g1 g2 n m T =
 
 -- T after a work, before it is cut: a box adds half a level, a rank nothing; an outline adds up six samples, and rounds nothing
 unfoldable pub growth : Work → ℕ → ℕ
-growth (weighted across down) T = weightedGrowth (scaledGain across) (scaledGain down) (length (across .taps)) (length (down .taps)) T
+growth (weighted across down) T = weightedGrowth (scaledGain across) (scaledGain down) (roundedTaps across) (roundedTaps down) T
 growth (box r s) T = T + 32768
 growth (rank r s p) T = T
 growth outline T = 6 * T

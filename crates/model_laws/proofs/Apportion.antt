@@ -7,6 +7,7 @@ use mathlib.Core.Path.{_≡_, refl, sym, ap, _∙_}
 use mathlib.Core.Bool.{Bool, true, false, cond, not, _&&_, _||_}
 use mathlib.Core.Logic.{_⊎_, inl, inr, ⊎-elim}
 use mathlib.Core.List.{List, [], _∷_, map}
+use lib.ListN.{length}
 use lib.Dec.{T, ltb, eqb, ltb→lt, lt→ltb, eqb→eq, eqb-refl, not-T}
 use lib.Arith.{le→nltb}
 use lib.IntN.{ℤ, pos, negsuc, _+ℤ_, _*ℤ_}
@@ -16,10 +17,10 @@ use Rattle.integers.proofs.Parts.{Parts, posPart, negPart, add-parts, sub-parts
 use Rattle.integers.proofs.Order.{<ℤ-trans}
 use Rattle.integers.proofs.Divide.{divided, Floor, floor-law}
 use Rattle.lists.specs.Count.{count}
-use Rattle.lists.proofs.Count.{Bit, one, none, bit-lt, count-mono, count-ext, count-length}
+use Rattle.lists.proofs.Count.{Bit, one, none, bit-lt, bit-one, bit-false, count-mono, count-ext, count-length}
 use Rattle.lists.proofs.Order.{Strict, Settled, served}
 use Rattle.model.specs.Kernel.{Tap, tap, Kernel, total, Rising}
-use Rattle.model.specs.Apportion.{quotient, remainder, wantedTotal, lacking, distance, nearer, comesBefore, servedBefore, getsUnit, share, apportion}
+use Rattle.model.specs.Apportion.{quotient, remainder, rounded, roundedTaps, wantedTotal, lacking, distance, nearer, comesBefore, servedBefore, getsUnit, share, apportion}
 
 -- each weight is its floor or one more
 pub share-floor : (K : Kernel) (t : Tap)
@@ -121,11 +122,12 @@ module _ (D : ℕ) where
   settled [] r = tt
   settled (t ∷ ts) r = ((λ s m. ⊎-elim (λ h. inl (of-before t s h)) (λ h. inr (of-before s t h)) (settle s t (r .0 s m))), settled ts (r .1))
 
--- ---- as many units are lacking as there can be receivers, at most
+-- ---- as many units are lacking as taps are rounded, at most
 
--- how many taps have a remainder
-pub receivers : ℕ → List Tap → ℕ
-receivers D ts = count (λ t. ltb 0 (remainder D t)) ts
+-- no more taps are rounded than there are
+pub rounded-le : (K : Kernel) → roundedTaps K ≤ length (K .taps)
+unfolding roundedTaps
+rounded-le K = count-length (rounded (K .divisor)) (K .taps)
 
 module _ (D : ℕ) (hD : 0 < D) where
   -- D times the quotients and the remainders make 65,536 times the weights
@@ -147,20 +149,24 @@ module _ (D : ℕ) (hD : 0 < D) where
   unfolding remainder
   remainder-small t = divided (pos 65536 *ℤ t .weight) D hD .small
 
-  remainders-small : (ts : List Tap) → sum (map (remainder D) ts) ≤ D * receivers D ts
-  unfolding sum receivers count
-  remainders-small [] = omega arith
-  remainders-small (t ∷ ts) = go (bit-lt 0 (remainder D t)) (remainders-small ts)
+  -- and 0 where the tap is not rounded
+  pub remainder-rounded : (t : Tap) → remainder D t ≤ D * cond (rounded D t) 1 0
+  unfolding rounded
+  remainder-rounded t = go (bit-lt 0 (remainder D t))
     where
-      go : {n : ℕ} → Bit (0 < remainder D t) (remainder D t ≤ 0) n → sum (map (remainder D) ts) ≤ D * receivers D ts
-          → remainder D t + sum (map (remainder D) ts) ≤ D * (n + receivers D ts)
-      go (one h) l = omega (arith, remainder-small t)
-      go (none h) l = omega arith
+      go : {n : ℕ} → Bit (0 < remainder D t) (remainder D t ≤ 0) n → remainder D t ≤ D * n
+      go (one h) = omega (arith, remainder-small t)
+      go (none h) = omega arith
 
--- L units are lacking: none is owed, and no more than there are taps with a remainder
+  remainders-small : (ts : List Tap) → sum (map (remainder D) ts) ≤ D * count (rounded D) ts
+  unfolding sum count
+  remainders-small [] = omega arith
+  remainders-small (t ∷ ts) = omega (arith, remainder-rounded t, remainders-small ts)
+
+-- L units are lacking: none is owed, and no more than taps are rounded
 pub record Lacking (K : Kernel) (L : ℕ) : Type 0 where
   pub is : lacking K ≡ pos L
-  pub few : L ≤ receivers (K .divisor) (K .taps)
+  pub few : L ≤ roundedTaps K
 
 module _ (K : Kernel) (hD : 0 < K .divisor) where
   D : ℕ
@@ -186,11 +192,11 @@ module _ (K : Kernel) (hD : 0 < K .divisor) where
   unfolding D Q R S
   Q-whole = whole (K .divisor) hD (K .taps)
 
-  R-small : R ≤ D * receivers D (K .taps)
-  unfolding D R
+  R-small : R ≤ D * roundedTaps K
+  unfolding D R roundedTaps
   R-small = remainders-small (K .divisor) hD (K .taps)
 
-  high : 2 * posPart Y + 2 * negPart Q ≤ 2 * posPart Q + 2 * negPart Y + 2 * receivers D (K .taps) + 1
+  high : 2 * posPart Y + 2 * negPart Q ≤ 2 * posPart Q + 2 * negPart Y + 2 * roundedTaps K + 1
   unfolding D
   high = le-of-mul-le-mul-left {k = K .divisor} (omega (arith, Y-floor, add-parts (pos 131072 *ℤ S) (pos D), mul-parts (pos 131072) S, Q-whole, R-small)) hD
 
@@ -227,7 +233,7 @@ module _ (K : Kernel) (hD : 0 < K .divisor) where
 
   -- the order of service hands out as many units as are lacking
   units : Rising (K .taps) → pos (count (getsUnit K) (K .taps)) ≡ lacking K
-  unfolding getsUnit servedBefore receivers
+  unfolding getsUnit servedBefore
   units r = go lacking-few
     where
       go : (L : ℕ) × Lacking K L → pos (count (getsUnit K) (K .taps)) ≡ lacking K
@@ -235,7 +241,7 @@ module _ (K : Kernel) (hD : 0 < K .divisor) where
           ap pos
           (count-ext (getsUnit K) (λ t. ltb (count (λ s. comesBefore (K .divisor) s t) (K .taps)) L) (K .taps) (λ t m. rw (l .is))
           ∙ served (comesBefore (K .divisor)) (strict (K .divisor)) L (K .taps) (settled (K .divisor) (K .taps) r)
-          ∙ min-eq-left (le-trans (l .few) (count-length (λ t. ltb 0 (remainder (K .divisor) t)) (K .taps))))
+          ∙ min-eq-left (le-trans (l .few) (rounded-le K)))
           ∙ sym (l .is)
 
 total-shares : (K : Kernel) (ts : List Tap) → total (map (share K) ts) ≡ sumℤ (map (quotient (K .divisor)) ts) +ℤ pos (count (getsUnit K) ts)
@@ -252,12 +258,21 @@ apportion-total K hD r = rw (total-shares K (K .taps), units K hD r) (add-sub (s
 
 -- a tap with remainder 0 gets no unit: all that have one come before it
 pub no-unit : (K : Kernel) (t : Tap) → 0 < K .divisor → remainder (K .divisor) t ≡ 0 → T (not (getsUnit K t))
-unfolding getsUnit servedBefore receivers
+unfolding getsUnit servedBefore rounded roundedTaps
 no-unit K t hD e = go (lacking-few K hD)
   where
-    ahead : receivers (K .divisor) (K .taps) ≤ count (λ s. comesBefore (K .divisor) s t) (K .taps)
-    ahead = count-mono (λ s. ltb 0 (remainder (K .divisor) s)) (λ s. comesBefore (K .divisor) s t)
+    ahead : roundedTaps K ≤ count (λ s. comesBefore (K .divisor) s t) (K .taps)
+    ahead = count-mono (rounded (K .divisor)) (λ s. comesBefore (K .divisor) s t)
         (λ s h. of-before (K .divisor) s t (inl (omega (arith, ltb→lt 0 (remainder (K .divisor) s) h)))) (K .taps)
 
     go : (L : ℕ) × Lacking K L → T (not (getsUnit K t))
     go (L, l) = rw (l .is) (le→nltb (count (λ s. comesBefore (K .divisor) s t) (K .taps)) L (le-trans (l .few) ahead))
+
+-- so only a rounded tap gets one
+pub unit-rounded : (K : Kernel) (t : Tap) → 0 < K .divisor → cond (getsUnit K t) 1 0 ≤ cond (rounded (K .divisor) t) 1 0
+unfolding rounded
+unit-rounded K t hD = go (bit-lt 0 (remainder (K .divisor) t))
+  where
+    go : {n : ℕ} → Bit (0 < remainder (K .divisor) t) (remainder (K .divisor) t ≤ 0) n → cond (getsUnit K t) 1 0 ≤ n
+    go (one h) = bit-one (getsUnit K t)
+    go (none h) = omega (arith, bit-false (getsUnit K t) (no-unit K t hD (omega arith)))

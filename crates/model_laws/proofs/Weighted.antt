@@ -6,19 +6,19 @@ use native.Mathlib.Omega.{arith}
 use mathlib.Core.Path.{_≡_, refl, ap}
 use mathlib.Core.Bool.{cond}
 use mathlib.Core.List.{List, [], _∷_, map}
-use lib.ListN.{length}
 use lib.IntN.{ℤ, pos, natAbs, _+ℤ_, _*ℤ_, *ℤ-zero}
 use Rattle.integers.specs.Divide.{floorDiv, ceilDiv, clamp}
 use Rattle.integers.specs.Sum.{sum}
 use Rattle.integers.proofs.Parts.{add-parts, mul-parts}
-use Rattle.integers.proofs.Divide.{floor-law, ceil-law}
+use Rattle.integers.proofs.Divide.{divided, ceil-law}
 use Rattle.integers.proofs.Near.{Near, near-trans, near-mono, near-zero, near-scale, near-rescale, near-add, near-mul, near-mul-bounded, near-round, near-of-abs, abs-of-near, near-clamp}
-use Rattle.lists.proofs.Count.{bit-one}
+use Rattle.lists.specs.Count.{count}
 use Rattle.model.specs.Plane.{Neighbourhood}
 use Rattle.model.specs.Kernel.{Tap, tap, Kernel, weightedSum, magnitude}
-use Rattle.model.specs.Apportion.{quotient, getsUnit, share, apportion}
+use Rattle.model.specs.Apportion.{quotient, remainder, rounded, roundedTaps, getsUnit, share, apportion}
 use Rattle.model.specs.Weighted.{rowValue, weightedResult}
 use Rattle.model.specs.Tolerance.{scaledGain, weightedGrowth}
+use Rattle.model_laws.proofs.Apportion.{remainder-rounded, unit-rounded}
 
 -- ---- weighted sums
 
@@ -38,29 +38,30 @@ abs-weightedSum ts f {M} h =
     let p : Near 1 (weightedSum ts f) 1 (pos 0) (magnitude ts * M) = rw (sum-of-zeros ts) at (near-weightedSum ts f (λ i. pos 0) (λ i. near-of-abs (f i) (h i))) in
     omega (arith, abs-of-near (weightedSum ts f) p)
 
--- ---- a weight in 65,536ths is off by at most one
+-- ---- a weight in 65,536ths is off by at most one, and not at all where the tap is not rounded
 
-pub near-share : (K : Kernel) (t : Tap) → 0 < K .divisor → Near (K .divisor) ((share K t) .weight) 65536 (t .weight) (K .divisor)
-unfolding share tap quotient
+pub near-share : (K : Kernel) (t : Tap) → 0 < K .divisor → Near (K .divisor) ((share K t) .weight) 65536 (t .weight) (K .divisor * cond (rounded (K .divisor) t) 1 0)
+unfolding share tap quotient remainder
 near-share K t h =
     let q = floorDiv (pos 65536 *ℤ t .weight) (K .divisor) in
     let b : ℕ = cond (getsUnit K t) 1 0 in
     omega (
       arith,
-      floor-law (pos 65536 *ℤ t .weight) (K .divisor) h,
+      divided (pos 65536 *ℤ t .weight) (K .divisor) h .whole,
       mul-parts (pos 65536) (t .weight),
       ap (λ (n : ℕ). K .divisor * n) (add-parts q (pos b) .sum),
-      mul-le-mul-left (K .divisor) (bit-one (getsUnit K t)),
+      mul-le-mul-left (K .divisor) (unit-rounded K t h),
+      remainder-rounded (K .divisor) h t,
     )
 
 module _ (K : Kernel) (h : 0 < K .divisor) (f : ℤ → ℤ) {M : ℕ} (b : (i : ℤ) → natAbs (f i) ≤ M) where
-  near-shares : (ts : List Tap) → Near (K .divisor) (weightedSum (map (share K) ts) f) 65536 (weightedSum ts f) (length ts * (K .divisor * M))
-  unfolding weightedSum share tap
+  near-shares : (ts : List Tap) → Near (K .divisor) (weightedSum (map (share K) ts) f) 65536 (weightedSum ts f) (count (rounded (K .divisor)) ts * (K .divisor * M))
+  unfolding weightedSum count share tap
   near-shares [] = near-mono (near-zero (K .divisor) 65536) (omega arith)
   near-shares (t ∷ ts) = near-mono (near-add (near-mul-bounded (f (t .offset)) (near-share K t h) (b (t .offset))) (near-shares ts)) (omega arith)
 
-  pub near-apportion : Near (K .divisor) (weightedSum (apportion K) f) 65536 (weightedSum (K .taps) f) (length (K .taps) * (K .divisor * M))
-  unfolding apportion
+  pub near-apportion : Near (K .divisor) (weightedSum (apportion K) f) 65536 (weightedSum (K .taps) f) (roundedTaps K * (K .divisor * M))
+  unfolding apportion roundedTaps
   near-apportion = near-shares (K .taps)
 
 pub gain-law : (K : Kernel) → 0 < K .divisor → 65536 * magnitude (K .taps) ≤ K .divisor * scaledGain K
@@ -70,7 +71,7 @@ gain-law K h = ceil-law (65536 * magnitude (K .taps)) (K .divisor) h
 -- ---- the row value
 
 module _ (K : Kernel) (f : ℤ → ℕ) (h : 0 < K .divisor) (b : (i : ℤ) → f i ≤ 255) where
-  pub near-row : Near (K .divisor * 1024) (rowValue (apportion K) f) 65536 (weightedSum (K .taps) (λ i. pos (f i))) (K .divisor * (255 * length (K .taps) + 512))
+  pub near-row : Near (K .divisor * 1024) (rowValue (apportion K) f) 65536 (weightedSum (K .taps) (λ i. pos (f i))) (K .divisor * (255 * roundedTaps K + 512))
   unfolding rowValue
   near-row =
       near-mono
@@ -80,7 +81,7 @@ module _ (K : Kernel) (f : ℤ → ℕ) (h : 0 < K .divisor) (b : (i : ℤ) → 
       (omega arith)
 
   -- 1,024 |h| ≤ 255 g1 + 255 n + 512
-  pub abs-row : 1024 * natAbs (rowValue (apportion K) f) ≤ 255 * scaledGain K + 255 * length (K .taps) + 512
+  pub abs-row : 1024 * natAbs (rowValue (apportion K) f) ≤ 255 * scaledGain K + 255 * roundedTaps K + 512
   abs-row = le-of-mul-le-mul-left {k = K .divisor} (omega (arith, whole, gain-law K h)) h
     where
       R : ℤ
@@ -89,7 +90,7 @@ module _ (K : Kernel) (f : ℤ → ℕ) (h : 0 < K .divisor) (b : (i : ℤ) → 
       small : natAbs R ≤ magnitude (K .taps) * 255
       small = abs-weightedSum (K .taps) (λ i. pos (f i)) b
 
-      whole : K .divisor * 1024 * natAbs (rowValue (apportion K) f) ≤ K .divisor * (255 * length (K .taps) + 512) + 65536 * (magnitude (K .taps) * 255)
+      whole : K .divisor * 1024 * natAbs (rowValue (apportion K) f) ≤ K .divisor * (255 * roundedTaps K + 512) + 65536 * (magnitude (K .taps) * 255)
       whole =
           abs-of-near {l = 65536} (rowValue (apportion K) f)
           (near-trans near-row (near-rescale 65536 {k′ = 65536} {l′ = 65536} {e′ = 65536 * (magnitude (K .taps) * 255)} (near-of-abs R small) refl refl (omega arith)))
@@ -112,10 +113,10 @@ module _ (across down : Kernel) (N T : ℕ) (hD : 0 < across .divisor) (hE : 0 <
   g2 = scaledGain down
 
   n : ℕ
-  n = length (across .taps)
+  n = roundedTaps across
 
   m : ℕ
-  m = length (down .taps)
+  m = roundedTaps down
 
   a1 : ℕ
   a1 = magnitude (across .taps)
@@ -188,7 +189,7 @@ module _ (across down : Kernel) (N T : ℕ) (hD : 0 < across .divisor) (hE : 0 <
     close : Close (weightedGrowth g1 g2 n m T) (N * (D * E)) (floorDiv (columns +ℤ pos (2 ^ 21)) (2 ^ 22)) (weightedSum (down .taps) exactly)
     close = omega (arith, whole)
 
-    pub weighted-close : Close (weightedGrowth (scaledGain across) (scaledGain down) (length (across .taps)) (length (down .taps)) T) (N * (across .divisor * down .divisor)) (pos (weightedResult across down f))
+    pub weighted-close : Close (weightedGrowth (scaledGain across) (scaledGain down) (roundedTaps across) (roundedTaps down) T) (N * (across .divisor * down .divisor)) (pos (weightedResult across down f))
         (pos (clamp (255 * (N * (across .divisor * down .divisor))) (weightedSum (down .taps) (λ j. weightedSum (across .taps) (λ i. pos (x i j))))))
     unfolding weightedResult columns exactly rows g1 g2 n m D E
     weighted-close = near-clamp 65536 (N * (across .divisor * down .divisor)) 255 _ _ close

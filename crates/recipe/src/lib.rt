@@ -20,7 +20,12 @@ fn after(total: Tolerance, s: Stage) -> Tolerance
     let across = s.across;
     let down = s.down;
     match work {
-        Work::Weighted => total.after_weighted(across.gain, down.gain, across.len, down.len),
+        Work::Weighted => total.after_weighted(
+            across.gain,
+            down.gain,
+            across.rounded,
+            down.rounded,
+        ),
         Work::Boxed(_) => total.after_box(),
         Work::Ranked(_, _) => total.after_rank(),
         Work::Outlined => total.after_outline(),

@@ -91,6 +91,7 @@ fn no_axis() -> Axis {
         offsets: [0u8; 31],
         weights: [0i32; 31],
         len: 0,
+        rounded: 0,
         gain: 0,
     }
 }

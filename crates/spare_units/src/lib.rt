@@ -11,18 +11,27 @@ ghost use Rattle.lists.specs.Count.{count};
 ghost use Rattle.numerators.specs.Numerator.{numeratorOf, remainderOf};
 ghost use Rattle.unit_order.specs.Order.{before};
 
-// The remainders of the first n taps.
-pub fn remainders(values: &[u64], n: usize, divisor: u64) -> [u64; 31]
+// The remainders of an axis's taps, and how many are not 0: so many taps are rounded.
+pub struct Leftovers {
+    pub rest: [u64; 31],
+    pub rounded: usize,
+}
+
+// What dividing the first n taps leaves over.
+pub fn remainders(values: &[u64], n: usize, divisor: u64) -> Leftovers
     requires { ⌜ (n ≤ 31) × (n ≤ length (now values)) × (0 < divisor) × (divisor ≤ 2 ^ 35) × ((i : ℕ) → i < n → natAbs (numeratorOf (getD (now values) i 0)) ≤ 4 * divisor) ⌝ }
-    ensures { λ r. ⌜ (31 ≡ length r) × (take n r ≡ tabulate (λ i. remainderOf (getD (now (values .entry)) i 0) divisor) n) ⌝ }
+    ensures { λ r. ⌜ (31 ≡ length (r .rest)) × (take n (r .rest) ≡ tabulate (λ i. remainderOf (getD (now (values .entry)) i 0) divisor) n) × (r .rounded ≡ count (ltb 0) (tabulate (λ i. remainderOf (getD (now (values .entry)) i 0) divisor) n)) ⌝ }
 {
     let mut rest = [0u64; 31];
+    let mut rounded = 0;
     let mut i = 0;
     while i < n {
-        rest[i] = numerators::raised(values[i], divisor) % divisor;
+        let left = numerators::raised(values[i], divisor) % divisor;
+        rest[i] = left;
+        rounded += bit(0 < left);
         i += 1;
     }
-    rest
+    Leftovers { rest, rounded }
 }
 
 fn sum_of(rest: &[u64], n: usize, divisor: u64) -> u64
@@ -47,7 +56,7 @@ pub fn lacking_units(rest: &[u64], n: usize, divisor: u64) -> u64
 }
 
 fn bit(b: bool) -> usize
-    ensures { λ r. ⌜ r ≡ cond b 1 0 ⌝ }
+    ensures { λ r. ⌜ (r ≤ 1) × (r ≡ cond b 1 0) ⌝ }
 {
     if b { 1 } else { 0 }
 }

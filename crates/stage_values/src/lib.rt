@@ -22,11 +22,12 @@ pub enum Work {
     Outlined,
 }
 
-// The taps of one axis: offsets 15 too large, weights in 65,536ths, and 65,536 times the gain, rounded up.
+// The taps of one axis: offsets 15 too large, weights in 65,536ths and how many of them are rounded, and 65,536 times the gain, rounded up.
 pub struct Axis {
     pub offsets: [u8; 31],
     pub weights: [i32; 31],
     pub len: usize,
+    pub rounded: usize,
     pub gain: u64,
 }
 

@@ -2,8 +2,8 @@
 use Prim.Native.Nat.{ℕ, _+_, _*_, _≤_, min}
 use mathlib.Core.Path.{_≡_, ap}
 use native.Mathlib.Omega.{arith}
-use lib.ListN.{length}
 use Rattle.model.specs.Kernel.{Kernel}
+use Rattle.model.specs.Apportion.{roundedTaps}
 use Rattle.model.specs.Stage.{Work, weighted, box, rank, outline, Stage}
 use Rattle.model.specs.Tolerance.{scaledGain, weightedGrowth, growth, afterStage}
 
@@ -13,7 +13,7 @@ module _ (T : ℕ) (t : Stage) where
   of-work h = ap (λ (w : Work). min (growth w T) 16711680) h
 
   pub after-weighted : {across down : Kernel} → t .work ≡ weighted across down
-      → afterStage T t ≡ min (weightedGrowth (scaledGain across) (scaledGain down) (length (across .taps)) (length (down .taps)) T) 16711680
+      → afterStage T t ≡ min (weightedGrowth (scaledGain across) (scaledGain down) (roundedTaps across) (roundedTaps down) T) 16711680
   unfolding growth
   after-weighted h = of-work h
 

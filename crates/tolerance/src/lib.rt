@@ -31,7 +31,7 @@ impl Tolerance {
         Tolerance { units: 0 }
     }
 
-    // g1, g2 are 65,536 times the gains across and down, rounded up; n, m the numbers of taps.
+    // g1, g2 are 65,536 times the gains across and down, rounded up; n, m the numbers of rounded taps.
     pub fn after_weighted(self, g1: u64, g2: u64, n: usize, m: usize) -> Self
         requires { ⌜ (self .units ≤ 16711680) × (g1 ≤ 2 ^ 18) × (g2 ≤ 2 ^ 18) × (n ≤ 31) × (m ≤ 31) ⌝ }
         ensures { λ r. ⌜ (r .units ≡ min (weightedGrowth g1 g2 n m (self .units)) 16711680) × (r .units ≤ 16711680) ⌝ }

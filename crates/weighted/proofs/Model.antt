@@ -24,6 +24,7 @@ use Rattle.lists.proofs.Sums.{map-tabulate, sum-more, sum-none}
 use Rattle.stage_values.specs.declared.Axis.{Axis}
 use Rattle.stage_values.specs.Place.{offsetOf}
 use Rattle.stage_values.specs.Ready.{Ready}
+use Rattle.stage_values.proofs.ReadyLaws.{rounded-few}
 use Rattle.frame.specs.declared.Frame.{Frame}
 use Rattle.frame.specs.Framed.{neighbours}
 use Rattle.frame.specs.Padded.{padded}
@@ -116,7 +117,7 @@ module _ {K : Kernel} {a : Axis} (r : Ready K a) where
   ready-light = record {
     few = r .few;
     near = r .near;
-    size = rw (size-list (a .offsets) (a .weights) (a .len), taps-are) (omega (arith, magnitude-apportion K (r .divided), r .scaled-gain, r .limited, r .few, r .count));
+    size = rw (size-list (a .offsets) (a .weights) (a .len), taps-are) (omega (arith, magnitude-apportion K (r .divided), r .scaled-gain, r .limited, r .rounded, rounded-few r));
   }
 
 -- ---- levels

@@ -120,6 +120,12 @@ pub fn weights(axis: &Axis) -> Vec<i64> {
     units.into_iter().map(|x| x as i64).collect()
 }
 
+/// How many taps have a weight that is no whole number of 65,536ths.
+fn rounded(axis: &Axis) -> i128 {
+    let whole = |t: &&Tap| 65536 * t.numerator as i128 % axis.divisor as i128 == 0;
+    (axis.taps.len() - axis.taps.iter().filter(whole).count()) as i128
+}
+
 /// Whether with each tap at o there is one at -o, and their weights in 65,536ths are the same.
 pub fn has_symmetric_weights(axis: &Axis) -> bool {
     let offsets = axis.taps.iter().map(|t| t.offset);
@@ -240,7 +246,7 @@ pub fn tolerance(stages: &[Stage]) -> u64 {
         t = match &stage.work {
             Work::Weighted { across, down } => {
                 let (g1, g2) = (gain_units(across), gain_units(down));
-                let (n, m) = (across.taps.len() as i128, down.taps.len() as i128);
+                let (n, m) = (rounded(across), rounded(down));
                 ceil_div(g1 * g2 * t, 1 << 32)
                     + ceil_div(g2 * (255 * n + 512), 65536)
                     + ceil_div(m * (255 * g1 + 255 * n + 512), 65536)

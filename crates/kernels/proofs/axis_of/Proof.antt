@@ -30,8 +30,8 @@ scaled-gain-requires c κs =
 
 returns : tie.Need-returns
 returns c =
-    let k = c .before .before .before .before .before .before .before .before .args .k in
-    axis-ready (k .divisor) (k .offsets) (k .values) (k .len) _ _ _ (c .before .before .before .before .before .before .before .before .pre) (c .before .before .before .shares .ensures .1) (c .before .magnitude .ensures) (c .scaled-gain .ensures)
+    let k = c .before .before .before .before .before .before .before .before .before .args .k in
+    axis-ready (k .divisor) (k .offsets) (k .values) (k .len) _ _ _ _ (c .before .before .before .before .before .before .before .before .before .pre) (c .before .before .before .before .shares .ensures .1) (c .before .before .before .before .shares .ensures .2) (c .before .before .magnitude .ensures) (c .before .scaled-gain .ensures)
 
 pub axis-of-spec : {M : Type 1} → statement M
 axis-of-spec =

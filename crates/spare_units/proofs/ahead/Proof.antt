@@ -8,7 +8,6 @@ use lib.ListN.{getD}
 use denote.Ref.{now}
 use Rattle.lists.specs.Tabulate.{tabulate}
 use Rattle.lists.specs.Count.{count}
-use Rattle.lists.proofs.Count.{bit-one}
 use Rattle.unit_order.specs.Order.{before}
 use Rattle.lists.proofs.Sums.{count-more, count-none}
 use borrow.Author.Needs.{needs}
@@ -31,7 +30,7 @@ bit-requires : tie.Need-bit-requires Inv-loop μ-loop
 bit-requires c κs = search needs
 
 add-found : tie.Need-add-found Inv-loop μ-loop
-add-found c = omega (arith, c .bit .ensures, bit-one (c .before .comes-before .result), c .before .before .before .loop .inv .1)
+add-found c = omega (arith, c .bit .ensures .0, c .before .before .before .loop .inv .1)
 
 add-j : tie.Need-add-j Inv-loop μ-loop
 add-j c = search needs
@@ -43,8 +42,8 @@ loop-again : tie.Need-loop-again Inv-loop μ-loop
 loop-again c =
     let a = c .before .before .before .before .before .before .args in
     let p : ℕ → Bool = λ k. before (getD (now (a .rest)) k 0) (getD (now (a .offsets)) k 0) (getD (now (a .rest)) (a .i) 0) (getD (now (a .offsets)) (a .i) 0) in
-    let one = c .bit .ensures ∙ ap (λ (b : Bool). cond {A = ℕ} b 1 0) (c .before .comes-before .ensures) in
-    (omega arith, omega (arith, c .bit .ensures, bit-one (c .before .comes-before .result)), omega (arith, count-more p (λ (k : ℕ). k) (c .before .before .before .loop .j), one, c .before .before .before .loop .inv .2))
+    let one = c .bit .ensures .1 ∙ ap (λ (b : Bool). cond {A = ℕ} b 1 0) (c .before .comes-before .ensures) in
+    (omega arith, omega (arith, c .bit .ensures .0), omega (arith, count-more p (λ (k : ℕ). k) (c .before .before .before .loop .j), one, c .before .before .before .loop .inv .2))
 
 returns : tie.Need-returns Inv-loop μ-loop
 returns c = rw (le-antisymm (c .before .loop .inv .0) (c .loop-test .left)) at (c .before .loop .inv .2)
