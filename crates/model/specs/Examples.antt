@@ -1,5 +1,5 @@
 -- Worked examples. `bench` has the starred cases of 'Bench stills' and, not starred there, the T of its first line; `details` pins what those and the
--- tolerance leave open, `outlines` the kind of request 2026-01, `symmetry` the order of service of request 2026-06, and `credit` the tolerance of request 2026-08.
+-- tolerance leave open, `outlines` the kind of request 2026-01, `symmetry` the order of service of request 2026-06, and `rounding` the rounded taps of request 2026-08.
 -- A row names the case, what the definitions give for its input, and what they should give. The theorem at the end goes over all rows.
 use Prim.Native.Nat.{ℕ, _^_}
 use Prim.Native.String.{String}
@@ -262,8 +262,8 @@ thirdReal = alone (2 ^ 35) (pos 11453246464)
 -- T behind gains of 1: n rounded taps across add 255 n, and m down 255 m and what 255 n + 512 come to, m times, in 65,536ths, rounded up to 1; 512 and 32,768 are always there.
 -- So quarters 33,280, thirds 765 + 766 more, quarters across with thirds down 766, thirds across with quarters down 765, and two rounded taps across 510;
 -- 1/3 as binary32: 255 across; down, with g2 21,846, 512 become 170.7, and one tap adds 255 and what 512 65,536ths come to.
-unfoldable pub credit : List Example
-credit =
+unfoldable pub rounding : List Example
+rounding =
     row "rounded taps: quarters; thirds; -1 -1 5 over 3; -1 0 1 over 3; 1 2 3 over 6; 2^-12 and 1/3 as binary32"
     (counts (map roundedTaps (quarters ∷ three 3 (pos 1) (pos 1) (pos 1) ∷ three 3 (minus 1) (minus 1) (pos 5) ∷ three 3 (minus 1) (pos 0) (pos 1) ∷ three 6 (pos 1) (pos 2) (pos 3) ∷ tinyReal ∷ thirdReal ∷ [])))
     (counts (0 ∷ 3 ∷ 3 ∷ 2 ∷ 2 ∷ 0 ∷ 1 ∷ []))
@@ -289,6 +289,6 @@ unfolding modulo ceilDiv clamp sum sumℤ tabulate raster count inside closest f
 opened = tt
 
 -- THE WORKED EXAMPLES HOLD, by computation
-pub examples-hold : map (λ e. e .found) (bench ++ details ++ outlines ++ symmetry ++ credit) ≡ map (λ e. e .expected) (bench ++ details ++ outlines ++ symmetry ++ credit)
-unfolding opened bench details outlines symmetry credit
+pub examples-hold : map (λ e. e .found) (bench ++ details ++ outlines ++ symmetry ++ rounding) ≡ map (λ e. e .expected) (bench ++ details ++ outlines ++ symmetry ++ rounding)
+unfolding opened bench details outlines symmetry rounding
 examples-hold = refl

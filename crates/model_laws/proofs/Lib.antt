@@ -14,4 +14,4 @@ pub mod Sides
 pub mod Flip
 pub mod Chain
 pub mod Bounds
-pub mod Credit
+pub mod Rounded

@@ -1,20 +1,24 @@
--- CREDIT FOR WEIGHTS THAT FIT (request 2026-08): T goes by the taps that are rounded, and is never above T by all taps, as it was before. Assumes nothing.
+-- ROUNDED TAPS (request 2026-08): T goes by the taps that are rounded, and is never above T by all taps, as it was before; weights that fit add nothing to it. Assumes nothing.
 use Prim.Native.Nat.{ℕ, zero, suc, _+_, _*_, _^_, _≤_, _<_, min}
 use native.Mathlib.Nat.{le-refl, mul-le-mul-left, lt-of-mul-lt-mul-left}
 use native.Mathlib.Omega.{arith}
 use mathlib.Core.Path.{_≡_, refl, ap}
 use mathlib.Core.Bool.{cond}
-use mathlib.Core.List.{List, [], _∷_, List·Memᴰ}
+use mathlib.Core.List.{List, [], _∷_, map, List·Memᴰ}
 use lib.ListN.{length}
 use lib.Dec.{T, ltb→lt}
 use lib.IntN.{ℤ, pos, _+ℤ_, _*ℤ_}
 use Rattle.integers.specs.Divide.{floorDiv, ceilDiv}
 use Rattle.integers.proofs.Parts.{posPart, negPart, parts-ext, add-parts, mul-parts}
 use Rattle.integers.proofs.Divide.{divided}
+use Rattle.integers.specs.Sum.{sum}
+use Rattle.lists.specs.Tabulate.{tabulate}
 use Rattle.lists.proofs.Members.{count-some}
-use Rattle.model.specs.Kernel.{Tap, tap, Kernel}
+use Rattle.model.specs.Border.{nearest}
+use Rattle.model.specs.Kernel.{Tap, tap, Kernel, kernel, magnitude}
+use Rattle.model.specs.Binomial.{pairSums, pascalRow, choose, binomial}
 use Rattle.model.specs.Apportion.{quotient, remainder, rounded, roundedTaps, getsUnit, share}
-use Rattle.model.specs.Stage.{Work, weighted, box, rank, outline, Stage}
+use Rattle.model.specs.Stage.{Work, weighted, box, rank, outline, Stage, stage}
 use Rattle.model.specs.Tolerance.{scaledGain, weightedGrowth, growth, afterStage, toleranceFrom, tolerance}
 use Rattle.model_laws.proofs.Apportion.{rounded-le}
 use Rattle.model_laws.proofs.Weighted.{near-share}
@@ -84,6 +88,12 @@ byTapsFrom T (t ∷ ts) = byTapsFrom (min (growthByTaps (t .work) T) 16711680) t
 
 pub toleranceByTaps : List Stage → ℕ
 toleranceByTaps ts = byTapsFrom 0 ts
+
+-- it gives the T that 'Bench stills' had: of binomial 1,0, of binomial 1,1, and of that and a box
+bench-before : map (λ ws. toleranceByTaps (map (λ w. stage nearest 0 w) ws)) ((weighted (binomial 1) (binomial 0) ∷ []) ∷ (weighted (binomial 1) (binomial 1) ∷ []) ∷ (weighted (binomial 1) (binomial 1) ∷ box 1 1 ∷ []) ∷ [])
+    ≡ 34301 ∷ 34811 ∷ 67579 ∷ []
+unfolding toleranceByTaps byTapsFrom growthByTaps growth weightedGrowth scaledGain ceilDiv magnitude sum tabulate pairSums pascalRow choose binomial kernel tap stage
+bench-before = refl
 
 growth-above : (w : Work) {T T′ : ℕ} → T ≤ T′ → growth w T ≤ growthByTaps w T′
 unfolding growth growthByTaps
