@@ -625,7 +625,6 @@ class Recipes(unittest.TestCase):
         for stage in outlines:
             self.assertEqual([stage[name] for name in ("kind", "border", "border_value", "across", "down", "growth")], ["outline", "constant", 7, axis, axis, 6])
 
-
     def test_explained_rounding(self):
         """Of 1 2 3 over 6 a half is whole in 65,536ths; of -1 0 1 over 3 the 0 is; 0.5 is, and 0.1 as binary32 is not; of the binomials all are up to radius 8."""
         ratios = {"kind": "ratios", "across": {"over": 6, "taps": {"left": 1, "here": 2, "right": 3}}, "down": {"over": 3, "taps": {"up": -1, "here": 0, "down": 1}}}

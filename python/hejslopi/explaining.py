@@ -28,7 +28,7 @@ def offsets(stage: Stage, axis: str) -> List[int]:
 
 
 def axis_explained(stage: Stage, axis: str) -> Dict[str, Any]:
-    """The offsets of an axis, exactly, as texts, the sum and the gain of its weights, and how many of them are rounded. A rank and an outline have none, and a box rounds none."""
+    """The offsets of an axis, the sum and the gain of its weights, exactly, as texts, and how many of them are rounded. A rank and an outline have no weights, and a box rounds none."""
     held = weights(stage, axis)
     return {
         "offsets": offsets(stage, axis),
@@ -56,8 +56,8 @@ def explain(recipe: BytesLike) -> Dict[str, Any]:
 
     `tolerance` is T in 65,536ths of a grey level, `grey_levels` the same in grey levels. Between two stills filtered by this recipe no sample can surely be
     still under a movement limit below `least_movement_limit`, in grey levels. `says_nothing`: T is all 255 grey levels. `growth`, of an outline: how many times
-    as large as before it makes T, up to all 255 grey levels. `rounded`, of an axis: how many of its weights are no whole number of 65,536ths. These add to T,
-    and the others do not. A stage that puts no weights into 65,536ths has none.
+    as large as before it makes T, up to all 255 grey levels. `rounded`, of an axis: how many of its weights are no whole number of 65,536ths, and so are rounded,
+    which T pays for; None where a stage puts no weights into 65,536ths.
     """
     given = taken("recipe", recipe)
     tolerance = read_recipe(given).tolerance

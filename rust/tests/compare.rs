@@ -346,7 +346,7 @@ fn written_samples_lie_within_the_tolerance() {
     });
 }
 
-/// Request 2026-08: weights that are not rounded have no part in T.
+/// Request 2026-08: T pays for rounded weights alone, and here few are.
 #[test]
 fn written_samples_of_fitting_weights_lie_within_the_tolerance() {
     within_the_tolerance("demand 3, weights that fit", 5_000, |rng| {

@@ -85,7 +85,7 @@ fn both_ways(across: [i16; 3], d: u16, down: [i16; 3], e: u16) -> Vec<u8> {
 
 /// Request 2026-08, by hand: 512 and 32,768 for a gain of 1 down; for each rounded weight across 255, and for each down 255 and a little.
 #[test]
-fn only_rounded_weights_have_a_part_in_the_tolerance() {
+fn the_tolerance_counts_rounded_weights() {
     let (quarters, thirds) = ([1, 2, 1], [1, 1, 1]);
     assert_eq!(tolerance(&both_ways(quarters, 4, quarters, 4)), 33280);
     assert_eq!(tolerance(&both_ways(thirds, 3, thirds, 3)), 34811);

@@ -20,13 +20,13 @@ fn share(value: u64, divisor: u64, unit: u64) -> i32
     high as i32 - 262144
 }
 
-// The weights of an axis in 65,536ths, and how many of its taps are rounded.
+// Weights in 65,536ths, and how many of their taps are rounded.
 struct Apportioned {
     weights: [i32; 31],
     rounded: usize,
 }
 
-// The first n weights in 65,536ths.
+// The first n weights in 65,536ths, and how many of the taps are rounded.
 fn shares(values: &[u64], offsets: &[u8], n: usize, divisor: u64) -> Apportioned
     requires { ⌜ Limits divisor (now offsets) (now values) n ⌝ }
     ensures { λ r. ⌜ (31 ≡ length (r .weights)) × (take n (r .weights) ≡ map (λ t. t .weight) (apportion (kernelOf divisor (now (offsets .entry)) (now (values .entry)) n))) × (r .rounded ≡ roundedTaps (kernelOf divisor (now (offsets .entry)) (now (values .entry)) n)) ⌝ }

@@ -259,8 +259,8 @@ thirdReal = alone (2 ^ 35) (pos 11453246464)
 -- Request 2026-08, worked by hand. In units of 1/65,536, a quarter is 16,384, a half 32,768, 2^-12 is 16 and 0 is 0, all whole; 1/3 is 21,845 1/3, 1/6 is 10,922 2/3, and 1/3 as binary32 21,845 171/512;
 -- 1 2 3 over 6 is 1/6, 1/3 and 1/2: two are rounded, and the one unit that they lack goes to one of them;
 -- C(2r,k)/2^(2r) is whole for all r up to 8, and else where C(2r,k) is a multiple of 2^(2r-16): 11 of the 19 for r 9, 4 of the 21 for r 10, and none from r 11 on;
--- T behind gains of 1: n rounded taps across add 255 n, and m down 255 m and what 255 n + 512 come to, m times, in 65,536ths, rounded up to 1; 512 and 32,768 are always there.
--- So quarters 33,280, thirds 765 + 766 more, quarters across with thirds down 766, thirds across with quarters down 765, and two rounded taps across 510;
+-- T of a first stage, with gains of 1: n rounded taps across add 255 n, and m down 255 m and what 255 n + 512 come to, m times, in 65,536ths, rounded up to 1; 512 and 32,768 are always there, and with m 0 the gain across does not count.
+-- So quarters 33,280, thirds 765 + 766 more, quarters across with thirds down 766, thirds across with quarters down 765, and two rounded taps across 510, and 2^-12 across nothing;
 -- 1/3 as binary32: 255 across; down, with g2 21,846, 512 become 170.7, and one tap adds 255 and what 512 65,536ths come to.
 unfoldable pub rounding : List Example
 rounding =

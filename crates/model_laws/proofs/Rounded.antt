@@ -1,4 +1,4 @@
--- ROUNDED TAPS (request 2026-08): T goes by the taps that are rounded, and is never above T by all taps, as it was before; weights that fit add nothing to it. Assumes nothing.
+-- ROUNDED TAPS (request 2026-08): T goes by the taps that are rounded, and is never above T by all taps, as it was before; what it is where none is rounded. Assumes nothing.
 use Prim.Native.Nat.{ℕ, zero, suc, _+_, _*_, _^_, _≤_, _<_, min}
 use native.Mathlib.Nat.{le-refl, mul-le-mul-left, lt-of-mul-lt-mul-left}
 use native.Mathlib.Omega.{arith}
@@ -67,7 +67,7 @@ module _ (K : Kernel) (t : Tap) (h : 0 < K .divisor) where
       none : unit ≤ 0
       none = let l : unit < 1 = lt-of-mul-lt-mul-left (K .divisor) (omega (arith, owed, divided z (K .divisor) h)) in omega (arith, l)
 
--- T after a stage of weights that all fit, both ways: nothing is left but what the samples bring, the row value's rounding and the last one
+-- T after a stage of weights that all fit, both ways, before it is cut: nothing is left but what the samples bring, the row value's rounding and the last one
 pub growth-fits : (across down : Kernel) (T : ℕ) → Fits across → Fits down
     → growth (weighted across down) T ≡ ceilDiv (scaledGain across * scaledGain down * T) (2 ^ 32) + ceilDiv (scaledGain down * 512) 65536 + 32768
 unfolding growth weightedGrowth ceilDiv
