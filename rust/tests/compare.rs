@@ -346,15 +346,6 @@ fn written_samples_lie_within_the_tolerance() {
     });
 }
 
-/// Request 2026-08: T pays for rounded weights alone, and here few are.
-#[test]
-fn written_samples_of_fitting_weights_lie_within_the_tolerance() {
-    within_the_tolerance("demand 3, weights that fit", 5_000, |rng| {
-        let stages = rng.size(1, 8);
-        inputs::fitting_recipe(rng, stages)
-    });
-}
-
 #[test]
 fn written_outlines_lie_within_the_tolerance() {
     within_the_tolerance("demand 3, outlines", 2_000, inputs::outlined_recipe);

@@ -26,7 +26,7 @@ struct Apportioned {
     rounded: usize,
 }
 
-// The first n weights in 65,536ths, and how many of the taps are rounded.
+// The first n taps, apportioned.
 fn shares(values: &[u64], offsets: &[u8], n: usize, divisor: u64) -> Apportioned
     requires { ⌜ Limits divisor (now offsets) (now values) n ⌝ }
     ensures { λ r. ⌜ (31 ≡ length (r .weights)) × (take n (r .weights) ≡ map (λ t. t .weight) (apportion (kernelOf divisor (now (offsets .entry)) (now (values .entry)) n))) × (r .rounded ≡ roundedTaps (kernelOf divisor (now (offsets .entry)) (now (values .entry)) n)) ⌝ }

@@ -245,9 +245,12 @@ symmetry =
     ∷ row "1 2 3 / 4 5 6, flipped" (samples (flippedSamples 3 2 (1 ∷ 2 ∷ 3 ∷ 4 ∷ 5 ∷ 6 ∷ []))) (samples (3 ∷ 2 ∷ 1 ∷ 6 ∷ 5 ∷ 4 ∷ []))
     ∷ []
 
--- a quarter, a half and a quarter
+-- a quarter, a half and a quarter; three thirds
 unfoldable pub quarters : Kernel
 quarters = three 4 (pos 1) (pos 2) (pos 1)
+
+unfoldable pub evenThirds : Kernel
+evenThirds = three 3 (pos 1) (pos 1) (pos 1)
 
 -- one binary32 weight at 0, by its numerator: 2^-12 is 2^23 over 2^35; 1/3, rounded to binary32, is 11,184,811 over 2^25, so 11,453,246,464 over 2^35
 unfoldable pub tinyReal : Kernel
@@ -260,20 +263,20 @@ thirdReal = alone (2 ^ 35) (pos 11453246464)
 -- 1 2 3 over 6 is 1/6, 1/3 and 1/2: two are rounded, and the one unit that they lack goes to one of them;
 -- C(2r,k)/2^(2r) is whole for all r up to 8, and else where C(2r,k) is a multiple of 2^(2r-16): 11 of the 19 for r 9, 4 of the 21 for r 10, and none from r 11 on;
 -- T of a first stage, with gains of 1: n rounded taps across add 255 n, and m down 255 m and what 255 n + 512 come to, m times, in 65,536ths, rounded up to 1; 512 and 32,768 are always there, and with m 0 the gain across does not count.
--- So quarters 33,280, thirds 765 + 766 more, quarters across with thirds down 766, thirds across with quarters down 765, and two rounded taps across 510, and 2^-12 across nothing;
+-- So quarters 33,280, thirds 765 + 766 more, quarters across with thirds down 766, thirds across with quarters down 765, two rounded taps across 510, and 2^-12 across nothing;
 -- 1/3 as binary32: 255 across; down, with g2 21,846, 512 become 170.7, and one tap adds 255 and what 512 65,536ths come to.
 unfoldable pub rounding : List Example
 rounding =
     row "rounded taps: quarters; thirds; -1 -1 5 over 3; -1 0 1 over 3; 1 2 3 over 6; 2^-12 and 1/3 as binary32"
-    (counts (map roundedTaps (quarters ∷ three 3 (pos 1) (pos 1) (pos 1) ∷ three 3 (minus 1) (minus 1) (pos 5) ∷ three 3 (minus 1) (pos 0) (pos 1) ∷ three 6 (pos 1) (pos 2) (pos 3) ∷ tinyReal ∷ thirdReal ∷ [])))
+    (counts (map roundedTaps (quarters ∷ evenThirds ∷ three 3 (minus 1) (minus 1) (pos 5) ∷ three 3 (minus 1) (pos 0) (pos 1) ∷ three 6 (pos 1) (pos 2) (pos 3) ∷ tinyReal ∷ thirdReal ∷ [])))
     (counts (0 ∷ 3 ∷ 3 ∷ 2 ∷ 2 ∷ 0 ∷ 1 ∷ []))
     ∷ row "rounded taps: the binomials r 0 to 15" (counts (tabulate (λ r. roundedTaps (binomial r)) 16))
     (counts (0 ∷ 0 ∷ 0 ∷ 0 ∷ 0 ∷ 0 ∷ 0 ∷ 0 ∷ 0 ∷ 8 ∷ 17 ∷ 23 ∷ 25 ∷ 27 ∷ 29 ∷ 31 ∷ []))
-    ∷ row "T of quarters, of thirds, both both ways"
-    (tolerances (toleranceOf (weighted quarters quarters ∷ []) ∷ toleranceOf (weighted (three 3 (pos 1) (pos 1) (pos 1)) (three 3 (pos 1) (pos 1) (pos 1)) ∷ []) ∷ []))
+    ∷ row "T of quarters both ways, of thirds both ways"
+    (tolerances (toleranceOf (weighted quarters quarters ∷ []) ∷ toleranceOf (weighted evenThirds evenThirds ∷ []) ∷ []))
     (tolerances (33280 ∷ 34811 ∷ []))
     ∷ row "T of quarters across with thirds down, of thirds across with quarters down"
-    (tolerances (toleranceOf (weighted quarters (three 3 (pos 1) (pos 1) (pos 1)) ∷ []) ∷ toleranceOf (weighted (three 3 (pos 1) (pos 1) (pos 1)) quarters ∷ []) ∷ []))
+    (tolerances (toleranceOf (weighted quarters evenThirds ∷ []) ∷ toleranceOf (weighted evenThirds quarters ∷ []) ∷ []))
     (tolerances (34046 ∷ 34045 ∷ []))
     ∷ row "T of -1 0 1 over 3, of 1 2 3 over 6, both across"
     (tolerances (toleranceOf (weighted (three 3 (minus 1) (pos 0) (pos 1)) one ∷ []) ∷ toleranceOf (weighted (three 6 (pos 1) (pos 2) (pos 3)) one ∷ []) ∷ []))
@@ -285,7 +288,7 @@ rounding =
 
 -- every definition that an example runs through, opened by one name
 opened : Unit {0}
-unfolding modulo ceilDiv clamp sum sumℤ tabulate raster count inside closest folded supply planeOf pick around tap kernel weightedSum total magnitude pairSums pascalRow choose binomial quotient remainder rounded roundedTaps wantedTotal lacking distance nearer comesBefore servedBefore getsUnit share apportion same opposite hasOpposite symmetric unitsLeft split unsplit flipped flippedSamples rowValue weightedResult area window boxResult insert sort smallest rankResult outlineKernels response largest edgeStrength outlineResult stage result stagePlane written scaledGain weightedGrowth growth afterStage toleranceFrom tolerance denominator numerator exactPlane exactFrom denominatorFrom exact exactDenominator row filtered exactly apportioned toleranceOf supplied minus three one two alone quadruple back outlined smoothed pair four thirds binomials allButFour quarters tinyReal thirdReal
+unfolding modulo ceilDiv clamp sum sumℤ tabulate raster count inside closest folded supply planeOf pick around tap kernel weightedSum total magnitude pairSums pascalRow choose binomial quotient remainder rounded roundedTaps wantedTotal lacking distance nearer comesBefore servedBefore getsUnit share apportion same opposite hasOpposite symmetric unitsLeft split unsplit flipped flippedSamples rowValue weightedResult area window boxResult insert sort smallest rankResult outlineKernels response largest edgeStrength outlineResult stage result stagePlane written scaledGain weightedGrowth growth afterStage toleranceFrom tolerance denominator numerator exactPlane exactFrom denominatorFrom exact exactDenominator row filtered exactly apportioned toleranceOf supplied minus three one two alone quadruple back outlined smoothed pair four thirds binomials allButFour quarters evenThirds tinyReal thirdReal
 opened = tt
 
 -- THE WORKED EXAMPLES HOLD, by computation

@@ -81,9 +81,6 @@ fn offsets(rng: &mut Rng, n: usize) -> Vec<i8> {
     all
 }
 
-/// What makes a divisor, and so many weights over it.
-type Ratios = fn(&mut Rng, usize) -> (u16, Vec<i16>);
-
 /// A divisor, and weights that mostly keep to the gain.
 fn ratios(rng: &mut Rng, n: usize) -> (u16, Vec<i16>) {
     let divisor = match rng.size(0, 2) {
@@ -91,19 +88,6 @@ fn ratios(rng: &mut Rng, n: usize) -> (u16, Vec<i16>) {
         1 => 1 << rng.range(0, 15),
         _ => rng.range(1, 65535),
     };
-    ratios_over(rng, n, divisor)
-}
-
-/// Mostly over a power of 2, and then no weight is rounded.
-fn fitting_ratios(rng: &mut Rng, n: usize) -> (u16, Vec<i16>) {
-    if rng.one_in(3) {
-        return ratios(rng, n);
-    }
-    let divisor = 1 << rng.range(0, 15);
-    ratios_over(rng, n, divisor)
-}
-
-fn ratios_over(rng: &mut Rng, n: usize, divisor: i64) -> (u16, Vec<i16>) {
     let mut weights = Vec::new();
     let to_one = rng.one_in(2);
     let mut left = if to_one { divisor } else { 4 * divisor };
@@ -199,7 +183,7 @@ fn symmetric_weights(rng: &mut Rng, bytes: &mut Vec<u8>, real: bool) {
 }
 
 /// Counts, divisors of ratios, offsets and weights.
-fn weighted(rng: &mut Rng, bytes: &mut Vec<u8>, real: bool, ratios: Ratios) {
+fn weighted(rng: &mut Rng, bytes: &mut Vec<u8>, real: bool) {
     let (n, m) = (count(rng, 1, 31), count(rng, 1, 31));
     bytes.extend([n as u8, m as u8]);
     let (across, down) = (ratios(rng, n), ratios(rng, m));
@@ -233,15 +217,11 @@ fn position(rng: &mut Rng, bytes: &mut Vec<u8>, area: usize) {
 
 const OUTLINE: u8 = 6;
 
-fn head(kind: u8, rng: &mut Rng, bytes: &mut Vec<u8>) {
+fn stage_of(kind: u8, rng: &mut Rng, bytes: &mut Vec<u8>) {
     let border = rng.range(0, 3) as u8;
     bytes.extend([kind, border, if border == 0 { rng.byte() } else { 0 }]);
-}
-
-fn stage_of(kind: u8, rng: &mut Rng, bytes: &mut Vec<u8>) {
-    head(kind, rng, bytes);
     match kind {
-        1 | 2 => weighted(rng, bytes, kind == 2, ratios),
+        1 | 2 => weighted(rng, bytes, kind == 2),
         3 | 4 => {
             radii(rng, bytes);
         }
@@ -270,21 +250,12 @@ pub fn symmetric_recipe(rng: &mut Rng, stages: usize) -> Vec<u8> {
         };
         match rng.pick(kinds) {
             kind @ 1..=2 => {
-                head(kind, rng, &mut bytes);
+                let border = rng.range(0, 3) as u8;
+                bytes.extend([kind, border, if border == 0 { rng.byte() } else { 0 }]);
                 symmetric_weights(rng, &mut bytes, kind == 2);
             }
             kind => stage_of(kind, rng, &mut bytes),
         }
-    }
-    bytes
-}
-
-/// A recipe of ratios whose weights fit on most axes: these are whole numbers of 65,536ths. It is mostly accepted.
-pub fn fitting_recipe(rng: &mut Rng, stages: usize) -> Vec<u8> {
-    let mut bytes = vec![stages as u8];
-    for _ in 0..stages {
-        head(1, rng, &mut bytes);
-        weighted(rng, &mut bytes, false, fitting_ratios);
     }
     bytes
 }
