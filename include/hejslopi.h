@@ -113,11 +113,11 @@ static inline const char *hejslopi_meaning(uint32_t number)
 
 /* How many elements must be lent for a picture of w by h.
  * SUMS is for one box stage of radii r, s: a recipe needs the largest of its box stages, 0 if it has none. SUMS_ANY is enough
- * for every recipe. FILE_ANY is enough for every file of w by h: its header has at most 17 bytes. A plane's output needs w*h.
+ * for every recipe. Neither depends on h, which stays among their arguments so that programs are compiled as before. FILE_ANY is enough for every file of w by h: its header has at most 17 bytes. A plane's output needs w*h.
  * BACKGROUND_RASTERS and BACKGROUND_LABELS are for a background of k stills, at most 1,000. */
 #define HEJSLOPI_WORK(w, h) ((size_t)2 * (w) * (h))
 #define HEJSLOPI_ROWS(w, h) ((size_t)(w) * ((size_t)(h) + 30))
-#define HEJSLOPI_SUMS(w, h, r, s) (((size_t)(w) + 2 * (size_t)(r) + 1) * ((size_t)(h) + 2 * (size_t)(s) + 1))
+#define HEJSLOPI_SUMS(w, h, r, s) (((size_t)(w) + 2 * (size_t)(r) + 1) * (2 * (size_t)(s) + 2))
 #define HEJSLOPI_SUMS_ANY(w, h) HEJSLOPI_SUMS(w, h, 15, 15)
 #define HEJSLOPI_FILE_ANY(w, h, channels) ((size_t)17 + (size_t)(w) * (h) * (channels))
 #define HEJSLOPI_BACKGROUND_RASTERS(w, h, channels, k) ((size_t)(w) * (h) * (channels) * (k))

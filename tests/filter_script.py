@@ -12,7 +12,7 @@ from filter_calls import UNMADE, Filter, word
 from scripts import written
 
 USAGE = "usage: ./filter STILL RECIPE OUT\n"
-FITS = "W*(H+30) at most 16,384 and, with box stages of radii r and s, (W+2r+1)*(H+2s+1) at most 16,384"
+FITS = "W*(H+30) at most 16,384 and, with box stages of radii r and s, (W+2r+1)*(2s+2) at most 16,384"
 LARGER = "python3 python/hejslopi.py filter STILL RECIPE OUT takes up to 8,192 by 8,192"
 LENT = "the program lends 32,768 bytes of work, 16,384 row values, 16,384 sums and 65,536 bytes of output, so a picture of W by H must have " + FITS
 

@@ -131,13 +131,13 @@ def file_length(width: int, height: int, channels: int) -> int:
 
 
 def sums_needed(recipe: BytesLike, width: int, height: int) -> int:
-    """How many sums the box stages of an accepted recipe need: the largest table, or 0."""
+    """How many sums the box stages of an accepted recipe need: those of the one that holds most, or 0. The height does not matter, and stays for those who give it."""
     need = 0
     for stage in read_stages(taken("recipe", recipe)):
         if not stage.whole:
             raise ValueError("stage %d cannot be followed here, so how many sums it needs is not known" % stage.number)
         if stage.kind == "box":
-            need = max(need, int((width + 2 * stage.one("radius", "across") + 1) * (height + 2 * stage.one("radius", "down") + 1)))
+            need = max(need, int((width + 2 * stage.one("radius", "across") + 1) * (2 * stage.one("radius", "down") + 2)))
     return need
 
 

@@ -79,7 +79,7 @@ fn sides(width: usize, height: usize) -> Result<(), Refusal> {
 }
 
 /// What must be lent to filter a picture of this size by this recipe: `2 W H` bytes of work, `W (H + 30)` row values, and sums
-/// for the box stage with the largest table, `(W + 2r + 1)(H + 2s + 1)` of them.
+/// for the box stage that holds most, `(W + 2r + 1)(2s + 2)` of them.
 pub fn needs(recipe: &[u8], width: usize, height: usize) -> Result<Needs, Refusal> {
     let stages = read_recipe(recipe)?.stages;
     sides(width, height)?;
@@ -94,7 +94,7 @@ pub fn needs(recipe: &[u8], width: usize, height: usize) -> Result<Needs, Refusa
             2 => 5 + 5 * taps(),
             3 => 5,
             4 => {
-                sums = sums.max((width + 2 * field(3) + 1) * (height + 2 * field(4) + 1));
+                sums = sums.max((width + 2 * field(3) + 1) * (2 * field(4) + 2));
                 5
             }
             5 => 7,

@@ -1,3 +1,4 @@
 pub mod Sums
 pub mod Rows
 pub mod Entries
+pub mod Held

@@ -1,2 +1,3 @@
--- Summed-area tables, definitions only.
+-- Summed-area tables, definitions only. Read the files in this order.
 pub mod Table
+pub mod HeldTable

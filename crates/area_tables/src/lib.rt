@@ -1,72 +1,89 @@
-// Summed-area tables: the running sums of a frame that is extended by a window's radii.
+// Summed-area tables: the running sums of a frame that is extended by a window's radii, row by row. As many rows are held as a window has edges and rows between.
 use frame::Frame;
 use stage_values::Window;
 ghost use mathlib.Core.Path.{_≡_};
+ghost use mathlib.Core.Logic.{_⊎_};
 ghost use mathlib.Core.List.{_++_};
-ghost use Prim.Native.Nat.{ℕ, _+_, _*_, _%_, _^_, _≤_, _<_};
+ghost use Prim.Native.Nat.{_+_, _*_, _%_, _^_, _≤_};
 ghost use lib.ListN.{length, getD, take, drop};
 ghost use Rattle.integers.specs.Sum.{sum};
-ghost use Rattle.lists.specs.Tabulate.{tabulate, raster};
+ghost use Rattle.lists.specs.Tabulate.{tabulate};
 ghost use Rattle.frame.specs.Framed.{Framed};
-ghost use Rattle.table_sizes.specs.TableSides.{tableWidth, tableHeight};
-ghost use Rattle.area_tables.specs.Table.{entry};
+ghost use Rattle.table_sizes.specs.Circle.{circleSize, placeOf};
+ghost use Rattle.area_tables.specs.HeldTable.{HeldTable};
 
 // The first n entries set to 0.
-fn clear(table: &mut [u32], n: usize)
-    requires { ⌜ n ≤ length (now table) ⌝ }
-    ensures { λ _. ⌜ now (table .exit) ≡ tabulate (λ _. 0) n ++ drop n (now (table .entry)) ⌝ }
+fn clear(sums: &mut [u32], n: usize)
+    requires { ⌜ n ≤ length (now sums) ⌝ }
+    ensures { λ _. ⌜ now (sums .exit) ≡ tabulate (λ _. 0) n ++ drop n (now (sums .entry)) ⌝ }
 {
     let mut i = 0;
     while i < n {
-        table[i] = 0;
+        sums[i] = 0;
         i += 1;
     }
 }
 
-// The table's next row, after the one at the front: the sums above, and those along the samples of `row`.
-fn add_row(table: &mut [u32], width: usize, row: &[u8])
-    requires { ⌜ (2 * width ≤ length (now table)) × (width ≤ length (now row)) ⌝ }
-    ensures { λ _. ⌜ now (table .exit) ≡ take width (now (table .entry)) ++ (tabulate (λ x. (getD (now (table .entry)) x 0 + sum (take x (now (row .entry)))) % 2 ^ 32) width ++ drop (2 * width) (now (table .entry))) ⌝ }
+// The row of sums at `to`, from the row above it at `from` and the sums along the samples of `row`.
+fn add_row(sums: &mut [u32], from: usize, to: usize, width: usize, row: &[u8])
+    requires { ⌜ (from + width ≤ length (now sums)) × (to + width ≤ length (now sums)) × (width ≤ length (now row)) × ((to ≤ from) ⊎ (from + width ≤ to)) ⌝ }
+    ensures { λ _. ⌜ now (sums .exit) ≡ take to (now (sums .entry)) ++ tabulate (λ x. (getD (now (sums .entry)) (from + x) 0 + sum (take x (now (row .entry)))) % 2 ^ 32) width ++ drop (to + width) (now (sums .entry)) ⌝ }
 {
     let mut total: u32 = 0;
     let mut x = 0;
     while x < width {
-        table[width + x] = std::num::wrapping_add_u32(table[x], total);
+        sums[to + x] = std::num::wrapping_add_u32(sums[from + x], total);
         total = std::num::wrapping_add_u32(total, row[x] as u32);
         x += 1;
     }
 }
 
-// The table's row k + 1, after row k at the front, from one row of the extended frame. `row` is where that is made.
-fn next_row(frame: Frame, window: Window, plane: &[u8], k: usize, row: &mut [u8], table: &mut [u32])
-    requires { ⌜ Framed frame (now plane) × (window .r ≤ 15) × (window .s ≤ 15) × (k ≤ 8222) × (frame .width + 31 ≤ length (now row)) × (2 * tableWidth (frame .width) window ≤ length (now table)) × ((x : ℕ) → x < tableWidth (frame .width) window → getD (now table) x 0 ≡ entry frame window (now plane) x k) ⌝ }
-    ensures { λ _. ⌜ now (table .exit) ≡ take (tableWidth (frame .width) window) (now (table .entry)) ++ (tabulate (λ x. entry frame window (now (plane .entry)) x (k + 1)) (tableWidth (frame .width) window) ++ drop (2 * tableWidth (frame .width) window) (now (table .entry))) ⌝ }
+// The table's row k + 1 in the place of the oldest, from row k, which lies at `from`, and one row of the extended frame. `row` is where that is made.
+pub fn next_row(
+    frame: Frame,
+    window: Window,
+    plane: &[u8],
+    k: usize,
+    from: usize,
+    row: &mut [u8],
+    sums: &mut [u32],
+) -> usize
+    requires { ⌜ Framed frame (now plane) × (window .r ≤ 15) × (window .s ≤ 15) × (k ≤ 8222) × (from ≡ placeOf (frame .width) window k) × (frame .width + 31 ≤ length (now row)) × (circleSize (frame .width) window ≤ length (now sums)) × HeldTable frame window (now plane) k (now sums) ⌝ }
+    ensures { λ to. ⌜ (to ≡ placeOf (frame .width) window (k + 1)) × HeldTable frame window (now (plane .entry)) (k + 1) (now (sums .exit)) ⌝ }
 {
     let w = frame.width;
-    let r = window.r;
-    let s = window.s;
-    let from = 15 - r;
-    frame::padded_row(frame, plane, 15 - s + k, row);
-    add_row(table, w + 2 * r + 1, &row[from..]);
+    let first = 15 - window.r;
+    let to = table_sizes::place_after(w, window, from);
+    frame::padded_row(frame, plane, 15 - window.s + k, row);
+    add_row(
+        sums,
+        from,
+        to,
+        table_sizes::table_width(w, window),
+        &row[first..],
+    );
+    to
 }
 
-// The whole table of an extended frame.
-pub fn build(frame: Frame, window: Window, plane: &[u8], table: &mut [u32])
-    requires { ⌜ Framed frame (now plane) × (window .r ≤ 15) × (window .s ≤ 15) × (tableHeight (frame .height) window * tableWidth (frame .width) window ≤ length (now table)) ⌝ }
-    ensures { λ _. ⌜ now (table .exit) ≡ raster (entry frame window (now (plane .entry))) (tableWidth (frame .width) window) (tableHeight (frame .height) window) ++ drop (tableHeight (frame .height) window * tableWidth (frame .width) window) (now (table .entry)) ⌝ }
+// The table's rows 0 to 2s, all above the lower edge of the first windows; gives where the last of them lies.
+pub fn first_rows(
+    frame: Frame,
+    window: Window,
+    plane: &[u8],
+    row: &mut [u8],
+    sums: &mut [u32],
+) -> usize
+    requires { ⌜ Framed frame (now plane) × (window .r ≤ 15) × (window .s ≤ 15) × (frame .width + 31 ≤ length (now row)) × (circleSize (frame .width) window ≤ length (now sums)) ⌝ }
+    ensures { λ last. ⌜ (last ≡ placeOf (frame .width) window (2 * window .s)) × HeldTable frame window (now (plane .entry)) (2 * window .s) (now (sums .exit)) ⌝ }
 {
     let w = frame.width;
-    let h = frame.height;
-    let r = window.r;
     let s = window.s;
-    let width = w + 2 * r + 1;
-    let mut row = [0u8; 8224];
-    clear(table, width);
+    clear(sums, table_sizes::table_width(w, window));
     let mut at = 0;
     let mut k = 0;
-    while k < h + 2 * s {
-        next_row(frame, window, plane, k, &mut row, &mut table[at..]);
-        at += width;
+    while k < 2 * s {
+        at = next_row(frame, window, plane, k, at, row, sums);
         k += 1;
     }
+    at
 }

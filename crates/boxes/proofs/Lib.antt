@@ -1,1 +1,2 @@
+pub mod Edges
 pub mod Windows

@@ -1,17 +1,18 @@
--- Window sums from a table's corners. Assumes nothing.
+-- Window sums from the corners of a table, of which a few rows are held. Assumes nothing.
 use Prim.Native.Nat.{ℕ, _+_, _-_, _*_, _/_, _^_, _≤_, _<_}
-use native.Mathlib.Nat.{add-assoc}
+use native.Mathlib.Nat.{le-refl, add-assoc}
 use native.Mathlib.Omega.{arith}
 use mathlib.Core.Path.{_≡_, ap, _∙_}
-use mathlib.Core.List.{List, _++_, append-nil}
-use lib.ListN.{length, getD, drop, List·getD-append, drop-of-length-le}
+use mathlib.Core.List.{List}
+use lib.ListN.{getD, drop}
 use lib.Seq.{getD-drop}
 use Rattle.integers.specs.Sum.{sum}
-use Rattle.lists.specs.Tabulate.{raster}
-use Rattle.lists.proofs.Raster.{length-raster, getD-raster, raster-ext, place-fits}
+use Rattle.lists.specs.Tabulate.{tabulate, raster}
+use Rattle.lists.proofs.Tabulate.{tabulate-ext}
+use Rattle.lists.proofs.Raster.{getD-raster, raster-ext}
 use Rattle.model.specs.Window.{area, window}
 use Rattle.model.specs.Box.{boxResult}
-use Rattle.model_laws.proofs.Window.{length-window, pairs-window, sum-le}
+use Rattle.model_laws.proofs.Window.{length-window, pairs-window, sum-le, area-le}
 use Rattle.model_laws.proofs.Chain.{around-both}
 use Rattle.model.specs.Plane.{planeOf}
 use Rattle.model.specs.Sound.{Bytes}
@@ -20,13 +21,13 @@ use Rattle.stage_values.specs.Stands.{borderIs}
 use Rattle.frame.specs.declared.Frame.{Frame}
 use Rattle.frame.specs.Framed.{neighbours, worked}
 use Rattle.frame.proofs.Supplied.{window-padded}
-use Rattle.table_sizes.specs.TableSides.{tableWidth, tableHeight}
-use Rattle.area_tables.specs.Table.{extended, entry}
+use Rattle.table_sizes.specs.Circle.{tableWidth, placeOf}
+use Rattle.area_tables.specs.Table.{extended, entry, fullTable}
+use Rattle.area_tables.specs.HeldTable.{HeldTable}
 use Rattle.mean_rows.specs.Corners.{corners}
-use Rattle.box_means.specs.WindowCorners.{cornersAt}
+use Rattle.boxes.specs.WindowCorners.{cornersAt}
 use Rattle.area_tables.proofs.Sums.{window-total}
 use Rattle.mean_rows.proofs.Corners.{difference-is-sum}
-use Rattle.box_means.proofs.Sizes.{area-small}
 
 module _ (f : Frame) (w : Window) (samples : List ℕ) (hr : w .r ≤ 15) (hs : w .s ≤ 15) where
   -- the window of column u, row v, in the extended frame
@@ -43,6 +44,41 @@ module _ (f : Frame) (w : Window) (samples : List ℕ) (hr : w .r ≤ 15) (hs : 
   window-corners : (u v : ℕ) → sum (window (w .r) (w .s) (neighbours f samples u v)) + all (u + (2 * w .r + 1)) v + all u (v + (2 * w .s + 1)) ≡ all (u + (2 * w .r + 1)) (v + (2 * w .s + 1)) + all u v
   window-corners u v = omega (arith, ap sum (window-extended u v), window-total (extended f w samples) u v (2 * w .r + 1) (2 * w .s + 1))
 
+  -- a list whose front is row y of the table
+  abbrev Row : List ℕ → ℕ → Type 0
+  Row l y = (i : ℕ) → i < tableWidth (f .width) w → getD l i 0 ≡ entry f w samples i y
+
+  full-row : (y : ℕ) → y < f .height + 2 * w .s + 1 → Row (drop (y * tableWidth (f .width) w) (fullTable f w samples)) y
+  unfolding fullTable
+  full-row y h i k = getD-drop (y * tableWidth (f .width) w) _ i 0 ∙ getD-raster (entry f w samples) (tableWidth (f .width) w) (f .height + 2 * w .s + 1) i y 0 k h
+
+  module _ (sums : List ℕ) (v : ℕ) (held : HeldTable f w samples (v + (2 * w .s + 1)) sums) where
+    upper-held : Row (drop (placeOf (f .width) w v) sums) v
+    upper-held i h = getD-drop (placeOf (f .width) w v) sums i 0 ∙ held .held i v h (omega arith) (omega arith)
+
+    lower-held : Row (drop (placeOf (f .width) w (v + (2 * w .s + 1))) sums) (v + (2 * w .s + 1))
+    lower-held i h = getD-drop (placeOf (f .width) w (v + (2 * w .s + 1))) sums i 0 ∙ held .held i (v + (2 * w .s + 1)) h (le-refl _) (omega arith)
+
+    -- THE CIRCLE IS THE FULL TABLE: every window has the same four corners in both, of frames of every size, however often their sums have passed 2^32
+    pub as-full-table : (u : ℕ) → u < f .width → v < f .height
+        → cornersAt sums (f .width) w u v ≡ corners (drop (v * tableWidth (f .width) w) (fullTable f w samples)) (drop ((v + (2 * w .s + 1)) * tableWidth (f .width) w) (fullTable f w samples)) (2 * w .r + 1) u
+    unfolding cornersAt corners
+    as-full-table u hu hv =
+        let far : 2 * w .r + 1 + u < tableWidth (f .width) w = omega arith in
+        let near : u < tableWidth (f .width) w = omega arith in
+        let high : v < f .height + 2 * w .s + 1 = omega arith in
+        let low : v + (2 * w .s + 1) < f .height + 2 * w .s + 1 = omega arith in
+        rw (
+          lower-held (2 * w .r + 1 + u) far,
+          upper-held u near,
+          upper-held (2 * w .r + 1 + u) far,
+          lower-held u near,
+          full-row (v + (2 * w .s + 1)) low (2 * w .r + 1 + u) far,
+          full-row v high u near,
+          full-row v high (2 * w .r + 1 + u) far,
+          full-row (v + (2 * w .s + 1)) low u near,
+        )
+
   -- of bytes
   module _ (hb : f .value ≤ 255) (hf : Bytes samples) where
     plane-le : (u v : ℕ) → planeOf (f .width) samples u v ≤ 255
@@ -57,43 +93,29 @@ module _ (f : Frame) (w : Window) (samples : List ℕ) (hr : w .r ≤ 15) (hs : 
     -- so it is below 2^32
     window-sum-small : (u v : ℕ) → sum (window (w .r) (w .s) (neighbours f samples u v)) < 2 ^ 32
     unfolding area
-    window-sum-small u v = omega (arith, window-sum-le u v, area-small (w .r) (w .s) hr hs)
+    window-sum-small u v = omega (arith, window-sum-le u v, area-le (w .r) (w .s) 15 15 hr hs)
 
-    module _ (table rest : List ℕ) (e : table ≡ raster (entry f w samples) (tableWidth (f .width) w) (tableHeight (f .height) w) ++ rest) where
-      -- what stands in the part from row v on
-      part-entry : (v i x y : ℕ) → x < tableWidth (f .width) w → y < tableHeight (f .height) w → v * (tableWidth (f .width) w) + i ≡ y * (tableWidth (f .width) w) + x
-          → getD (drop (v * (tableWidth (f .width) w)) table) i 0 ≡ entry f w samples x y
-      part-entry v i x y hx hy p =
-          let g = entry f w samples in
-          let n = tableWidth (f .width) w in
-          let m = tableHeight (f .height) w in
-          getD-drop (v * n) table i 0 ∙ ap (λ (k : ℕ). getD table k 0) p ∙ ap (λ (t : List ℕ). getD t (y * n + x) 0) e
-          ∙ List·getD-append (raster g n m) rest 0 (y * n + x) (rw length-raster (place-fits x y n m hx hy)) ∙ getD-raster g n m x y 0 hx hy
+    -- the difference of a window's four corners is its sum, for two rows of the table wherever they lie
+    edges-sum : (upper lower : List ℕ) (u v : ℕ) → u < f .width → Row upper v → Row lower (v + (2 * w .s + 1)) → corners upper lower (2 * w .r + 1) u ≡ sum (window (w .r) (w .s) (neighbours f samples u v))
+    unfolding corners entry
+    edges-sum upper lower u v hu above below =
+        let right : 2 * w .r + 1 + u ≡ u + (2 * w .r + 1) = omega arith in
+        let far : u + (2 * w .r + 1) < tableWidth (f .width) w = omega arith in
+        let near : u < tableWidth (f .width) w = omega arith in
+        rw (right, below (u + (2 * w .r + 1)) far, above u near, above (u + (2 * w .r + 1)) far, below u near)
+        (difference-is-sum (sum (window (w .r) (w .s) (neighbours f samples u v))) (all (u + (2 * w .r + 1)) (v + (2 * w .s + 1))) (all (u + (2 * w .r + 1)) v) (all u (v + (2 * w .s + 1))) (all u v)
+        (window-sum-small u v) (window-corners u v))
 
-      -- the difference of the four corners of a window is its sum
-      pub corners-sum : (u v : ℕ) → u < f .width → v < f .height → cornersAt table (f .width) w u v ≡ sum (window (w .r) (w .s) (neighbours f samples u v))
-      unfolding cornersAt corners entry
-      corners-sum u v hu hv =
-          let far : u + (2 * w .r + 1) < tableWidth (f .width) w = omega arith in
-          let low : v + (2 * w .s + 1) < tableHeight (f .height) w = omega arith in
-          let near : u < tableWidth (f .width) w = omega arith in
-          let high : v < tableHeight (f .height) w = omega arith in
-          rw (
-            part-entry v ((2 * w .s + 1) * (tableWidth (f .width) w) + (2 * w .r + 1) + u) (u + (2 * w .r + 1)) (v + (2 * w .s + 1)) far low (omega arith),
-            part-entry v u u v near high (omega arith),
-            part-entry v (2 * w .r + 1 + u) (u + (2 * w .r + 1)) v far high (omega arith),
-            part-entry v ((2 * w .s + 1) * (tableWidth (f .width) w) + u) u (v + (2 * w .s + 1)) near low (omega arith),
-          )
-          (difference-is-sum (sum (window (w .r) (w .s) (neighbours f samples u v))) (all (u + (2 * w .r + 1)) (v + (2 * w .s + 1))) (all (u + (2 * w .r + 1)) v) (all u (v + (2 * w .s + 1))) (all u v)
-          (window-sum-small u v) (window-corners u v))
+    module _ (sums : List ℕ) (v : ℕ) (held : HeldTable f w samples (v + (2 * w .s + 1)) sums) where
+      -- so is that of the rows that are held, once the lower edge of row v's windows is among them
+      pub held-sum : (u : ℕ) → u < f .width → cornersAt sums (f .width) w u v ≡ sum (window (w .r) (w .s) (neighbours f samples u v))
+      unfolding cornersAt
+      held-sum u hu = edges-sum _ _ u v hu (upper-held sums v held) (lower-held sums v held)
 
-      pub corners-le : (u v : ℕ) → u < f .width → v < f .height → cornersAt table (f .width) w u v ≤ 255 * area (w .r) (w .s)
-      corners-le u v hu hv = rw (corners-sum u v hu hv) (window-sum-le u v)
+      pub held-le : (u : ℕ) → u < f .width → cornersAt sums (f .width) w u v ≤ 255 * area (w .r) (w .s)
+      held-le u hu = rw (held-sum u hu) (window-sum-le u v)
 
-      -- the means that take the place of a whole frame
-      pub means-all : (old new : List ℕ) → length old ≡ f .height * f .width → new ≡ raster (λ u v. (2 * cornersAt table (f .width) w u v + area (w .r) (w .s)) / (2 * area (w .r) (w .s))) (f .width) (f .height) ++ drop (f .height * f .width) old
-          → new ≡ worked f (boxResult (w .r) (w .s)) samples
-      unfolding boxResult worked
-      means-all old new l en =
-          let nothing : length old ≤ f .height * f .width = omega arith in
-          en ∙ rw (drop-of-length-le old nothing, append-nil) (raster-ext _ _ (f .width) (f .height) (λ u v hu hv. rw (corners-sum u v hu hv)))
+      -- and the means are the results of row v
+      pub row-means : tabulate (λ u. (2 * cornersAt sums (f .width) w u v + area (w .r) (w .s)) / (2 * area (w .r) (w .s))) (f .width) ≡ tabulate (λ u. boxResult (w .r) (w .s) (neighbours f samples u v)) (f .width)
+      unfolding boxResult
+      row-means = tabulate-ext _ _ (f .width) (λ u hu. rw (held-sum u hu))

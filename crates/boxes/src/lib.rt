@@ -1,20 +1,78 @@
-// Box stages, by a summed-area table.
+// Box stages: a row of means is made as soon as the lower edge of its windows is among the running sums, and the next row of sums takes the upper edge's place.
 use frame::Frame;
 use stage_values::Window;
 ghost use mathlib.Core.Path.{_≡_};
-ghost use Prim.Native.Nat.{_*_, _≤_};
-ghost use lib.ListN.{length};
+ghost use mathlib.Core.List.{_++_};
+ghost use Prim.Native.Nat.{ℕ, _+_, _-_, _*_, _/_, _^_, _≤_, _<_};
+ghost use lib.ListN.{length, take, drop};
+ghost use Rattle.lists.specs.Tabulate.{tabulate};
+ghost use Rattle.model.specs.Window as Model;
 ghost use Rattle.model.specs.Box.{boxResult};
 ghost use Rattle.frame.specs.Framed.{Framed, worked};
-ghost use Rattle.table_sizes.specs.TableSides.{tableWidth, tableHeight};
+ghost use Rattle.table_sizes.specs.Circle.{circleSize, placeOf};
+ghost use Rattle.area_tables.specs.HeldTable.{HeldTable};
+ghost use Rattle.kept_planes.specs.HeldRow.{kept};
+ghost use Rattle.boxes.specs.WindowCorners.{cornersAt};
 
-// A box stage on a plane, in place: the table holds what it needs of the samples before.
-pub fn box_stage(frame: Frame, window: Window, plane: &mut [u8], table: &mut [u32])
-    requires { ⌜ Framed frame (now plane) × (window .r ≤ 15) × (window .s ≤ 15) × (tableHeight (frame .height) window * tableWidth (frame .width) window ≤ length (now table)) ⌝ }
-    ensures { λ _. ⌜ now (plane .exit) ≡ worked frame (boxResult (window .r) (window .s)) (now (plane .entry)) ⌝ }
+// How many samples a window has.
+fn area(window: Window) -> u32
+    requires { ⌜ (window .r ≤ 15) × (window .s ≤ 15) ⌝ }
+    ensures { λ n. ⌜ n ≡ Model.area (window .r) (window .s) ⌝ }
+{
+    ((2 * window.r + 1) * (2 * window.s + 1)) as u32
+}
+
+// A row of means, from the rows of sums that are held: the lower edge of its windows lies at `lower`, and their upper edge, the oldest row, after it.
+fn mean_row(sums: &[u32], w: usize, window: Window, lower: usize, by: u32, dst: &mut [u8])
+    requires { ⌜ (w ≤ 8192) × (window .r ≤ 15) × (window .s ≤ 15) × (circleSize w window ≤ length (now sums)) × (w ≤ length (now dst)) × (by ≡ (2 ^ 32 + (2 * Model.area (window .r) (window .s) - 1)) / (2 * Model.area (window .r) (window .s))) × ((v : ℕ) × (lower ≡ placeOf w window (v + (2 * window .s + 1))) × ((u : ℕ) → u < w → cornersAt (now sums) w window u v ≤ 255 * Model.area (window .r) (window .s))) ⌝ }
+    ensures { λ _. ⌜ ((v : ℕ) → lower ≡ placeOf w window (v + (2 * window .s + 1)) → now (dst .exit) ≡ tabulate (λ u. (2 * cornersAt (now (sums .entry)) w window u v + Model.area (window .r) (window .s)) / (2 * Model.area (window .r) (window .s))) w ++ drop w (now (dst .entry))) ⌝ }
+{
+    let n = area(window);
+    let across = 2 * window.r + 1;
+    let upper = table_sizes::place_after(w, window, lower);
+    mean_rows::mean_row(&sums[upper..], &sums[lower..], across, w, n, by, dst);
+}
+
+// All rows of means, into the plane at the front of `work`. The plane behind it holds the samples before; rows of them are made in `row`. The row of sums above
+// the lower edge of the first windows lies at `last`.
+fn write_rows(
+    frame: Frame,
+    window: Window,
+    last: usize,
+    work: &mut [u8],
+    row: &mut [u8],
+    sums: &mut [u32],
+)
+    requires { ⌜ Framed frame (kept frame (now work)) × (window .r ≤ 15) × (window .s ≤ 15) × (frame .width + 31 ≤ length (now row)) × (circleSize (frame .width) window ≤ length (now sums)) × (last ≡ placeOf (frame .width) window (2 * window .s)) × HeldTable frame window (kept frame (now work)) (2 * window .s) (now sums) ⌝ }
+    ensures { λ _. ⌜ take (frame .height * frame .width) (now (work .exit)) ≡ worked frame (boxResult (window .r) (window .s)) (kept frame (now (work .entry))) ⌝ }
 {
     let w = frame.width;
     let h = frame.height;
-    area_tables::build(frame, window, plane, table);
-    box_means::means(table, w, h, window, plane);
+    let s = window.s;
+    let n = h * w;
+    let by = mean_rows::reciprocal(area(window));
+    let mut lower = last;
+    let mut at = 0;
+    let mut v = 0;
+    while v < h {
+        let behind = &work[n..n + n];
+        lower = area_tables::next_row(frame, window, behind, 2 * s + v, lower, row, sums);
+        mean_row(sums, w, window, lower, by, &mut work[at..]);
+        at += w;
+        v += 1;
+    }
+}
+
+// A box stage on the plane at the front of `work`. The plane behind it holds the samples before.
+pub fn box_stage(frame: Frame, window: Window, work: &mut [u8], sums: &mut [u32])
+    requires { ⌜ Framed frame (take (frame .height * frame .width) (now work)) × (2 * (frame .height * frame .width) ≤ length (now work)) × (window .r ≤ 15) × (window .s ≤ 15) × (circleSize (frame .width) window ≤ length (now sums)) ⌝ }
+    ensures { λ _. ⌜ take (frame .height * frame .width) (now (work .exit)) ≡ worked frame (boxResult (window .r) (window .s)) (take (frame .height * frame .width) (now (work .entry))) ⌝ }
+{
+    let w = frame.width;
+    let h = frame.height;
+    let n = h * w;
+    let mut row = [0u8; 8224];
+    kept_planes::keep(work, n);
+    let last = area_tables::first_rows(frame, window, &work[n..n + n], &mut row, sums);
+    write_rows(frame, window, last, work, &mut row, sums);
 }

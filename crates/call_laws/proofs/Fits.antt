@@ -25,7 +25,7 @@ use Rattle.recipe_stages.specs.StageBytes.{workTests, workOf, stageTests, stage
 use Rattle.recipe_stages.proofs.ByKind.{radii-kind, head-known, stage-parts}
 use Rattle.recipe.specs.Recipe.{stagesTests, stagesOf, recipeTests, recipeStages, recipeOf}
 use Rattle.recipe.proofs.Accepted.{recipe-read}
-use Rattle.table_sizes.specs.Needs.{tableSize, sumNeed}
+use Rattle.table_sizes.specs.Needs.{heldSums, sumNeed}
 use Rattle.room.specs.Room.{roomTests}
 use Rattle.filter_answers.specs.Limits.{archive}
 use Rattle.filter_answers.specs.FileAnswer.{fileSize, pictureAnswer}
@@ -35,32 +35,29 @@ use Rattle.program_filter.specs.Program.{programLent, programAnswer}
 
 -- ---- a recipe that is accepted has no larger window than 31 by 31
 
-module _ (W H : ℕ) where
+module _ (W : ℕ) where
   -- of a stage after its header bytes
-  table-most : (kind : ℕ) (b : List ℕ) → 1 ≤ kind → kind ≤ 6 → verdict (workTests kind b) ≡ Passed → tableSize W H (workOf kind b) ≤ (W + 31) * (H + 31)
-  unfolding tableSize workOf weightedWork
-  table-most zero b l h e = absurd (omega (arith, l))
-  table-most (suc zero) b l h e = omega arith
-  table-most (suc (suc zero)) b l h e = omega arith
-  table-most (suc (suc (suc zero))) b l h e = omega arith
-  table-most (suc (suc (suc (suc zero)))) b l h e = let r = radii-kind b 4 (omega arith) (omega arith) e in mul-le-mul (side W (at b 0) (r .0)) (side H (at b 1) (r .1))
-    where
-      side : (n r : ℕ) → r ≤ 15 → n + 2 * r + 1 ≤ n + 31
-      side n r k = omega (arith, k)
-  table-most (suc (suc (suc (suc (suc zero))))) b l h e = omega arith
-  table-most (suc (suc (suc (suc (suc (suc zero)))))) b l h e = omega arith
-  table-most (suc (suc (suc (suc (suc (suc (suc k))))))) b l h e = absurd (omega (arith, h))
+  held-most : (kind : ℕ) (b : List ℕ) → 1 ≤ kind → kind ≤ 6 → verdict (workTests kind b) ≡ Passed → heldSums W (workOf kind b) ≤ (W + 31) * 32
+  unfolding heldSums workOf weightedWork
+  held-most zero b l h e = absurd (omega (arith, l))
+  held-most (suc zero) b l h e = omega arith
+  held-most (suc (suc zero)) b l h e = omega arith
+  held-most (suc (suc (suc zero))) b l h e = omega arith
+  held-most (suc (suc (suc (suc zero)))) b l h e = let r = radii-kind b 4 (omega arith) (omega arith) e in mul-le-mul {n₂ = W + 31} {m₂ = 32} (omega (arith, r .0)) (omega (arith, r .1))
+  held-most (suc (suc (suc (suc (suc zero))))) b l h e = omega arith
+  held-most (suc (suc (suc (suc (suc (suc zero)))))) b l h e = omega arith
+  held-most (suc (suc (suc (suc (suc (suc (suc k))))))) b l h e = absurd (omega (arith, h))
 
-  stages-most : (k : ℕ) (b : List ℕ) → AllPass (stagesTests k b) → sumNeed W H (stagesOf k b) ≤ (W + 31) * (H + 31)
+  stages-most : (k : ℕ) (b : List ℕ) → AllPass (stagesTests k b) → sumNeed W (stagesOf k b) ≤ (W + 31) * 32
   unfolding stagesTests stagesOf sumNeed stageOf stage
   stages-most zero b p = omega arith
   stages-most (suc k) b p =
       let q = all-append (stageTests b) (stagesTests k (drop (stageLength b) b)) p in
       let parts = stage-parts b (passed-all (stageTests b) (q .0)) in
       let kind = head-known b (parts .0) in
-      omega (arith, table-most (at b 0) (drop 3 b) (kind .0) (kind .1) (parts .1), stages-most k (drop (stageLength b) b) (q .1))
+      omega (arith, held-most (at b 0) (drop 3 b) (kind .0) (kind .1) (parts .1), stages-most k (drop (stageLength b) b) (q .1))
 
-  pub sums-most : (b : List ℕ) → verdict (recipeTests b) ≡ Passed → sumNeed W H (recipeStages b) ≤ (W + 31) * (H + 31)
+  pub sums-most : (b : List ℕ) → verdict (recipeTests b) ≡ Passed → sumNeed W (recipeStages b) ≤ (W + 31) * 32
   unfolding recipeTests recipeStages
   sums-most b e = stages-most (at b 0) (drop 1 b) (all-pass (recipeTests b) e .1 .1)
 
@@ -76,7 +73,7 @@ module _ (recipe still : List ℕ) {S T : ℕ} (accepted : recipeOf recipe ≡ S
   unfolding roomTests fileSize verdict
   enough e =
       rw (
-        le-leb (sumNeed 96 72 (recipeStages recipe)) 16384 (omega (arith, sums-most 96 72 recipe (recipe-read recipe accepted .0))),
+        le-leb (sumNeed 96 (recipeStages recipe)) 16384 (omega (arith, sums-most 96 recipe (recipe-read recipe accepted .0))),
         le-leb (length (headerBytes 96 72 c) + 96 * 72 * c) 65536 (omega (arith, header-length 96 72 c (omega arith) (omega arith), channels-few c (picture-valid still e .channels))),
       )
 

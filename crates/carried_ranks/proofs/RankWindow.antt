@@ -1,12 +1,10 @@
 -- The histogram of a window of the frame, and the window's p-th smallest sample. Assumes nothing.
 use Prim.Native.Nat.{ℕ, _+_, _-_, _*_, _≤_, _<_}
-use native.Mathlib.Nat.{le-trans, min-le-left, lt-of-not-le}
+use native.Mathlib.Nat.{le-trans}
 use native.Mathlib.Omega.{arith}
-use native.Mathlib.Decide.{decLe}
 use mathlib.Core.Path.{_≡_, sym, _∙_}
 use mathlib.Core.List.{List}
-use lib.ListN.{length, length-take, getD, take, drop, List·getD-eq-default}
-use lib.Seq.{getD-take, getD-drop}
+use lib.ListN.{length, take, drop}
 use lib.IntN.{ℤ}
 use Rattle.model.specs.Plane.{Neighbourhood, planeOf}
 use Rattle.model.specs.Sound.{Bytes}
@@ -35,14 +33,6 @@ part-front n l m e = let z : n - 0 ≡ n = omega arith in rw z e
 -- the rows inside are in the plane
 pub rows-lent : (f : Frame) (plane : List ℕ) (y d n : ℕ) (l : List ℕ) → Framed f plane → take n l ≡ rowStarts f y d → Rows f plane d (take (n - 0) (drop 0 l))
 rows-lent f plane y d n l h e = rw (part-front n l (rowStarts f y d) e) (starts-rows f y plane h d)
-
--- a part of bytes is bytes
-pub kept-bytes : (n : ℕ) (work : List ℕ) → Bytes work → Bytes (take n (drop n work))
-kept-bytes n work h i = go (decLe n i)
-  where
-    go : Dec (n ≤ i) → getD (take n (drop n work)) i 0 ≤ 255
-    go (yes k) = rw (List·getD-eq-default (take n (drop n work)) 0 {n = i} (le-trans (rw length-take (min-le-left n (length (drop n work)))) k)) (omega arith)
-    go (no k) = rw (getD-take n (drop n work) i 0 (lt-of-not-le k), getD-drop n work i 0) (h (n + i))
 
 module _ (f : Frame) (samples : List ℕ) (r s p u v : ℕ) (hr : r ≤ 15) (hs : s ≤ 15) (hp : 1 ≤ p) (hq : p ≤ area r s) (counts : List ℕ)
     (e : counts ≡ histogram (sideBySide (column f samples r s v hr hs) (15 - r + u) (2 * r + 1))) where

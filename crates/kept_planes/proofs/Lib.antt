@@ -1,3 +1,2 @@
-pub mod StoredAt
 pub mod Planes
 pub mod Held

@@ -1,16 +1,18 @@
 -- Two planes of n samples in one buffer: the one in front is written, and the one behind it is as it was. Assumes nothing.
 use Prim.Native.Nat.{ℕ, _+_, _-_, _*_, _≤_}
-use native.Mathlib.Nat.{mul-le-mul, mul-le-mul-right}
+use native.Mathlib.Nat.{le-trans, min-le-left, lt-of-not-le, mul-le-mul, mul-le-mul-right}
+use native.Mathlib.Decide.{decLe}
 use native.Mathlib.Numerals.{add-one}
 use native.Mathlib.Omega.{arith}
 use mathlib.Core.Path.{_≡_, sym, _∙_}
 use mathlib.Core.List.{List, _++_, append-assoc}
-use lib.ListN.{length, take, drop, length-take, length-drop}
-use lib.Seq.{length-take-le, take-at, drop-at}
+use lib.ListN.{length, getD, take, drop, length-take, length-drop, List·getD-eq-default}
+use lib.Seq.{length-take-le, getD-take, getD-drop, take-at, drop-at}
 use Rattle.lists.specs.Tabulate.{tabulate, raster}
 use Rattle.lists.proofs.Part.{drop-past}
 use Rattle.lists.proofs.Raster.{length-raster}
 use Rattle.lists.proofs.Stored.{StoredRows}
+use Rattle.model.specs.Sound.{Bytes}
 use Rattle.frame.specs.declared.Frame.{Frame}
 use Rattle.frame.specs.Framed.{Framed}
 use Rattle.kept_planes.specs.HeldRow.{kept}
@@ -26,6 +28,14 @@ plane-behind n l e h = omega (arith, e, h .whole, length-take n (drop n l), leng
 -- after a copy the plane behind is what the front plane was
 pub behind-copied : (n : ℕ) (d l : List ℕ) → n ≤ length d → l ≡ take n d ++ take n d ++ drop (n + n) d → take n (drop n l) ≡ take n d
 behind-copied n d l h e = rw (e, append-assoc, drop-at (take n d) _ n (length-take-le n d h), take-at (take n d) _ n (length-take-le n d h))
+
+-- a plane behind bytes has bytes
+pub kept-bytes : (n : ℕ) (work : List ℕ) → Bytes work → Bytes (take n (drop n work))
+kept-bytes n work h i = go (decLe n i)
+  where
+    go : Dec (n ≤ i) → getD (take n (drop n work)) i 0 ≤ 255
+    go (yes k) = rw (List·getD-eq-default (take n (drop n work)) 0 {n = i} (le-trans (rw length-take (min-le-left n (length (drop n work)))) k)) (omega arith)
+    go (no k) = rw (getD-take n (drop n work) i 0 (lt-of-not-le k), getD-drop n work i 0) (h (n + i))
 
 -- no frame is large
 pub plane-small : {f : Frame} {samples : List ℕ} → Framed f samples → f .height * f .width ≤ 67108864

@@ -9,3 +9,4 @@ pub mod Members
 pub mod Folds
 pub mod CountParts
 pub mod Stored
+pub mod StoredAt

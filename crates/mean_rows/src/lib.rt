@@ -7,48 +7,48 @@ ghost use Rattle.lists.specs.Tabulate.{tabulate};
 ghost use Rattle.mean_rows.specs.Corners.{corners};
 
 // The sum of a window from its four corners. Entries are modulo 2^32, and so is this: a window's sum is smaller.
-fn window_sum(table: &[u32], below: usize, across: usize, u: usize) -> u32
-    requires { ⌜ below + across + u < length (now table) ⌝ }
-    ensures { λ r. ⌜ r ≡ corners (now (table .entry)) below across u ⌝ }
+fn window_sum(upper: &[u32], lower: &[u32], across: usize, u: usize) -> u32
+    requires { ⌜ (across + u < length (now upper)) × (across + u < length (now lower)) ⌝ }
+    ensures { λ r. ⌜ r ≡ corners (now (upper .entry)) (now (lower .entry)) across u ⌝ }
 {
-    let right = std::num::wrapping_sub_u32(table[below + across + u], table[across + u]);
-    let left = std::num::wrapping_sub_u32(table[below + u], table[u]);
+    let right = std::num::wrapping_sub_u32(lower[across + u], upper[across + u]);
+    let left = std::num::wrapping_sub_u32(lower[u], upper[u]);
     std::num::wrapping_sub_u32(right, left)
 }
 
 // 2^32 / (2 area), rounded up.
-pub fn reciprocal(area: u32) -> u64
+pub fn reciprocal(area: u32) -> u32
     requires { ⌜ (1 ≤ area) × (area ≤ 961) ⌝ }
     ensures { λ r. ⌜ r ≡ (2 ^ 32 + (2 * area - 1)) / (2 * area) ⌝ }
 {
     let twice = 2 * area as u64;
-    (4294967296 + (twice - 1)) / twice
+    ((4294967296 + (twice - 1)) / twice) as u32
 }
 
-// (2 sum + area) / (2 area) by the reciprocal: no division for each sample.
-fn mean(sum: u32, area: u32, by: u64) -> u8
+// (2 sum + area) / (2 area) by the reciprocal: no division for each sample, and the one product is of two numbers of 32 bits, as vectors have it.
+fn mean(sum: u32, area: u32, by: u32) -> u8
     requires { ⌜ (1 ≤ area) × (area ≤ 961) × (sum ≤ 255 * area) × (by ≡ (2 ^ 32 + (2 * area - 1)) / (2 * area)) ⌝ }
     ensures { λ r. ⌜ r ≡ (2 * sum + area) / (2 * area) ⌝ }
 {
-    (((2 * sum + area) as u64 * by) >> 32) as u8
+    (((2 * sum + area) as u64 * by as u64) >> 32) as u8
 }
 
-// One row of means, from the table's rows at the front and `below` entries after it.
+// One row of means, from the table's rows at the upper and the lower edge of its windows.
 pub fn mean_row(
-    table: &[u32],
-    below: usize,
+    upper: &[u32],
+    lower: &[u32],
     across: usize,
     w: usize,
     area: u32,
-    by: u64,
+    by: u32,
     dst: &mut [u8],
 )
-    requires { ⌜ (w ≤ length (now dst)) × (below + across + w ≤ length (now table)) × (1 ≤ area) × (area ≤ 961) × (by ≡ (2 ^ 32 + (2 * area - 1)) / (2 * area)) × ((u : ℕ) → u < w → corners (now table) below across u ≤ 255 * area) ⌝ }
-    ensures { λ _. ⌜ now (dst .exit) ≡ tabulate (λ u. (2 * corners (now (table .entry)) below across u + area) / (2 * area)) w ++ drop w (now (dst .entry)) ⌝ }
+    requires { ⌜ (w ≤ length (now dst)) × (across + w ≤ length (now upper)) × (across + w ≤ length (now lower)) × (1 ≤ area) × (area ≤ 961) × (by ≡ (2 ^ 32 + (2 * area - 1)) / (2 * area)) × ((u : ℕ) → u < w → corners (now upper) (now lower) across u ≤ 255 * area) ⌝ }
+    ensures { λ _. ⌜ now (dst .exit) ≡ tabulate (λ u. (2 * corners (now (upper .entry)) (now (lower .entry)) across u + area) / (2 * area)) w ++ drop w (now (dst .entry)) ⌝ }
 {
     let mut u = 0;
     while u < w {
-        dst[u] = mean(window_sum(table, below, across, u), area, by);
+        dst[u] = mean(window_sum(upper, lower, across, u), area, by);
         u += 1;
     }
 }

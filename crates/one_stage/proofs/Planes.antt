@@ -21,8 +21,8 @@ use Rattle.stage_values.specs.declared.Stage.{Stage}
 use Rattle.stage_values.specs.Stands.{Does, Stands}
 use Rattle.frame.specs.declared.Frame.{Frame}
 use Rattle.frame.specs.Framed.{Framed, worked}
-use Rattle.table_sizes.specs.TableSides.{tableWidth, tableHeight}
-use Rattle.table_sizes.specs.Needs.{tableSize}
+use Rattle.table_sizes.specs.Circle.{circleSize}
+use Rattle.table_sizes.specs.Needs.{heldSums}
 
 -- a plane that was put in place of the front
 pub front-put : (g : ℕ → ℕ → ℕ) (w h : ℕ) (plane rest : List ℕ) → plane ≡ raster g w h → take (h * w) (plane ++ rest) ≡ raster g w h
@@ -57,9 +57,9 @@ module _ (w h : ℕ) (s : Stage) where
       unfolding Model.stagePlane Model.result worked
       box-plane = rw (box-does .0, k .border, k .value)
 
-      -- its table fits, rows first
-      pub box-room : {n : ℕ} → tableSize w h (t .work) ≤ n → tableHeight h x * tableWidth w x ≤ n
-      unfolding tableSize
+      -- its rows of sums fit
+      pub box-room : {n : ℕ} → heldSums w (t .work) ≤ n → circleSize w x ≤ n
+      unfolding heldSums
       box-room l = rw mul-comm (rw (box-does .0) at l)
 
     module _ {x : Window} {p : ℕ} (e : s .work ≡ Ranked x p) where

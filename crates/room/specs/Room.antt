@@ -22,7 +22,7 @@ unfoldable pub roomTests : ℕ → ℕ → List Stage → ℕ → Lent → List 
 roomTests W H ts size l =
     (leb (2 * (W * H)) (l .works), Refusal.room)
     ∷ (leb (W * (H + 30)) (l .rows), Refusal.room)
-    ∷ (leb (sumNeed W H ts) (l .sums), Refusal.room)
+    ∷ (leb (sumNeed W ts) (l .sums), Refusal.room)
     ∷ (leb size (l .out), Refusal.room)
     ∷ []
 
@@ -38,4 +38,4 @@ pub record Sufficient (W H : ℕ) (recipe : List ℕ) (works rows sums : ℕ) : 
   pub accepted : verdict (recipeTests recipe) ≡ Passed
   pub enough-work : 2 * (W * H) ≤ works
   pub enough-rows : W * (H + 30) ≤ rows
-  pub enough-sums : sumNeed W H (recipeStages recipe) ≤ sums
+  pub enough-sums : sumNeed W (recipeStages recipe) ≤ sums

@@ -17,9 +17,9 @@ pub struct Lent {
 }
 
 // How many sums must be lent for the box stages of a recipe.
-fn sum_need(bytes: &[u8], w: usize, h: usize) -> usize
-    requires { ⌜ (w ≤ 8192) × (h ≤ 8192) × (verdict (recipeTests (now bytes)) ≡ Passed) ⌝ }
-    ensures { λ n. ⌜ n ≡ sumNeed w h (recipeStages (now (bytes .entry))) ⌝ }
+fn sum_need(bytes: &[u8], w: usize) -> usize
+    requires { ⌜ (w ≤ 8192) × (verdict (recipeTests (now bytes)) ≡ Passed) ⌝ }
+    ensures { λ n. ⌜ n ≡ sumNeed w (recipeStages (now (bytes .entry))) ⌝ }
 {
     let count = bytes[0];
     let mut need = 0;
@@ -30,7 +30,7 @@ fn sum_need(bytes: &[u8], w: usize, h: usize) -> usize
         let s = recipe_stages::read_stage(part);
         at += recipe_stages::stage_length(part);
         k += 1;
-        need = integers::larger(need, table_sizes::table_size(s, w, h));
+        need = integers::larger(need, table_sizes::held_sums(s, w));
     }
     need
 }
@@ -50,7 +50,7 @@ pub fn tests(recipe: &[u8], w: usize, h: usize, size: usize, lent: Lent) -> Verd
     if rows < w * (h + 30) {
         return Verdict::Refused(refusals::ROOM);
     }
-    if sums < sum_need(recipe, w, h) {
+    if sums < sum_need(recipe, w) {
         return Verdict::Refused(refusals::ROOM);
     }
     if out < size {

@@ -1,4 +1,4 @@
--- The written chain a stage at a time, and room for its tables. Assumes nothing.
+-- The written chain a stage at a time, and room for its sums. Assumes nothing.
 use Prim.Native.Nat.{ℕ, _≤_}
 use native.Mathlib.Omega.{arith}
 use mathlib.Core.Path.{_≡_, refl}
@@ -6,7 +6,7 @@ use mathlib.Core.List.{List, [], _∷_}
 use Rattle.lists.specs.Tabulate.{raster}
 use Rattle.model.specs.Plane.{planeOf}
 use Rattle.model.specs.Stage as Model
-use Rattle.table_sizes.specs.Needs.{tableSize, sumNeed}
+use Rattle.table_sizes.specs.Needs.{heldSums, sumNeed}
 
 pub chain-none : (w h : ℕ) (samples : List ℕ) → Model.written w h [] samples ≡ samples
 unfolding Model.written
@@ -18,10 +18,10 @@ unfolding Model.written
 chain-more w h t ts samples plane e = rw e
 
 -- room for all is room for the first, and for the rest
-pub first-fits : (w h : ℕ) (t : Model.Stage) (ts : List Model.Stage) {n : ℕ} → sumNeed w h (t ∷ ts) ≤ n → tableSize w h (t .work) ≤ n
+pub first-fits : (w : ℕ) (t : Model.Stage) (ts : List Model.Stage) {n : ℕ} → sumNeed w (t ∷ ts) ≤ n → heldSums w (t .work) ≤ n
 unfolding sumNeed
-first-fits w h t ts l = omega (arith, l)
+first-fits w t ts l = omega (arith, l)
 
-pub rest-fit : (w h : ℕ) (t : Model.Stage) (ts : List Model.Stage) {n : ℕ} → sumNeed w h (t ∷ ts) ≤ n → sumNeed w h ts ≤ n
+pub rest-fit : (w : ℕ) (t : Model.Stage) (ts : List Model.Stage) {n : ℕ} → sumNeed w (t ∷ ts) ≤ n → sumNeed w ts ≤ n
 unfolding sumNeed
-rest-fit w h t ts l = omega (arith, l)
+rest-fit w t ts l = omega (arith, l)

@@ -17,7 +17,7 @@ pub fn run_stages(
     rows: &mut [i32],
     sums: &mut [u32],
 )
-    requires { ⌜ (1 ≤ w) × (w ≤ 8192) × (1 ≤ h) × (h ≤ 8192) × (2 * (h * w) ≤ length (now work)) × ((h + 30) * w ≤ length (now rows)) × (verdict (recipeTests (now bytes)) ≡ Passed) × (sumNeed w h (recipeStages (now bytes)) ≤ length (now sums)) ⌝ }
+    requires { ⌜ (1 ≤ w) × (w ≤ 8192) × (1 ≤ h) × (h ≤ 8192) × (2 * (h * w) ≤ length (now work)) × ((h + 30) * w ≤ length (now rows)) × (verdict (recipeTests (now bytes)) ≡ Passed) × (sumNeed w (recipeStages (now bytes)) ≤ length (now sums)) ⌝ }
     ensures { λ _. ⌜ take (h * w) (now (work .exit)) ≡ written w h (recipeStages (now (bytes .entry))) (take (h * w) (now (work .entry))) ⌝ }
 {
     let count = bytes[0];

@@ -1,33 +1,52 @@
-// How large a table a stage needs.
+// How many running sums a stage holds, and where their rows lie.
 use stage_values::Stage;
+use stage_values::Window;
 use stage_values::Work;
 ghost use mathlib.Core.Path.{_≡_};
-ghost use Prim.Native.Nat.{_+_, _*_, _≤_};
+ghost use Prim.Native.Nat.{ℕ, _+_, _*_, _≤_};
 ghost use Rattle.model.specs.Stage as Model;
 ghost use Rattle.stage_values.specs.Stands.{Stands};
-ghost use Rattle.table_sizes.specs.Needs.{tableSize};
+ghost use Rattle.table_sizes.specs.Circle.{tableWidth, circleSize, placeOf};
+ghost use Rattle.table_sizes.specs.Needs.{heldSums};
 
-// A side of a box stage's table: the axis, extended by the radius on both ends, and one.
-fn table_side(n: usize, radius: usize) -> usize
-    requires { ⌜ (n ≤ 8192) × (radius ≤ 15) ⌝ }
-    ensures { λ side. ⌜ side ≡ n + 2 * radius + 1 ⌝ }
+// The entries of a row of sums.
+pub fn table_width(w: usize, window: Window) -> usize
+    requires { ⌜ (w ≤ 8192) × (window .r ≤ 15) ⌝ }
+    ensures { λ n. ⌜ n ≡ tableWidth w window ⌝ }
 {
-    n + 2 * radius + 1
+    w + 2 * window.r + 1
 }
 
-// The entries of a box stage's table, 0 for other work.
-pub fn table_size(stage: Stage, w: usize, h: usize) -> usize
-    requires { ⌜ (w ≤ 8192) × (h ≤ 8192) × ((t : Model.Stage) × Stands stage t) ⌝ }
-    ensures { λ n. ⌜ ((t : Model.Stage) → Stands stage t → n ≡ tableSize w h (t .work)) ⌝ }
+// The entries of a whole circle of rows.
+fn circle_size(w: usize, window: Window) -> usize
+    requires { ⌜ (w ≤ 8192) × (window .r ≤ 15) × (window .s ≤ 15) ⌝ }
+    ensures { λ n. ⌜ n ≡ circleSize w window ⌝ }
+{
+    (2 * window.s + 2) * table_width(w, window)
+}
+
+// Where the row after that at `at` lies: behind it, or at the front where the circle ends.
+pub fn place_after(w: usize, window: Window, at: usize) -> usize
+    requires { ⌜ (w ≤ 8192) × (window .r ≤ 15) × (window .s ≤ 15) × ((y : ℕ) × (at ≡ placeOf w window y)) ⌝ }
+    ensures { λ next. ⌜ ((y : ℕ) → at ≡ placeOf w window y → next ≡ placeOf w window (y + 1)) ⌝ }
+{
+    let next = at + table_width(w, window);
+    if next < circle_size(w, window) {
+        next
+    } else {
+        0
+    }
+}
+
+// The sums that a box stage holds, 0 for other work.
+pub fn held_sums(stage: Stage, w: usize) -> usize
+    requires { ⌜ (w ≤ 8192) × ((t : Model.Stage) × Stands stage t) ⌝ }
+    ensures { λ n. ⌜ ((t : Model.Stage) → Stands stage t → n ≡ heldSums w (t .work)) ⌝ }
 {
     let work = stage.work;
     match work {
         Work::Weighted => 0,
-        Work::Boxed(window) => {
-            let r = window.r;
-            let s = window.s;
-            table_side(w, r) * table_side(h, s)
-        }
+        Work::Boxed(window) => circle_size(w, window),
         Work::Ranked(_, _) => 0,
         Work::Outlined => 0,
     }

@@ -557,14 +557,14 @@ pub struct Lengths {
 
 /// What a picture of this size and an output of `out` bytes need.
 pub fn needs(stages: &[Stage], w: usize, h: usize, out: usize) -> Lengths {
-    let table = |stage: &Stage| match stage.work {
-        Work::Box { r, s } => (w + 2 * r as usize + 1) * (h + 2 * s as usize + 1),
+    let held = |stage: &Stage| match stage.work {
+        Work::Box { r, s } => (w + 2 * r as usize + 1) * (2 * s as usize + 2),
         _ => 0,
     };
     Lengths {
         work: 2 * w * h,
         rows: w * (h + 30),
-        sums: stages.iter().map(table).max().unwrap_or(0),
+        sums: stages.iter().map(held).max().unwrap_or(0),
         out,
     }
 }

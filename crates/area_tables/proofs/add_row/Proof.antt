@@ -1,29 +1,30 @@
--- `area_tables::add_row` meets its contract: the row at the front is kept, and after it stands what is stored so far. Assumes nothing.
+-- `area_tables::add_row` meets its contract: what is stored so far, in a place apart from the row above. Assumes nothing.
 use Prim.Native.Nat.{ℕ, _+_, _-_, _%_, _^_, _≤_}
 use native.Mathlib.Nat.{le-antisymm}
 use native.Mathlib.Omega.{arith}
 use mathlib.Core.Path.{_≡_, refl, ap, _∙_}
-use mathlib.Core.List.{_++_}
-use lib.ListN.{length, getD, take, drop, length-set, length-drop}
-use lib.Seq.{take-set-le, drop-set-add}
+use lib.ListN.{length, getD, take, length-set}
 use denote.Ref.{now}
 use Rattle.integers.specs.Sum.{sum}
-use Rattle.lists.specs.Tabulate.{tabulate}
-use Rattle.lists.proofs.Tabulate.{fill-none, fill-more}
-use Rattle.area_tables.proofs.Rows.{same-front, two-rows, running-more, running-added}
+use Rattle.lists.proofs.StoredAt.{stored, stored-none, stored-more}
+use Rattle.area_tables.proofs.Rows.{above-kept, running-more, running-added}
 use borrow.Author.Needs.{needs}
 use Rattle.area_tables.proofs.add_row.Statement.{statement}
 use Rattle.area_tables.proofs.add_row.Tie as tie
 
 abbrev Inv-loop : tie.InvT-loop
-Inv-loop table₀ width row total₀ x₀ table total x = (x ≤ width) × (total ≡ sum (take x row) % 2 ^ 32) × (take width table ≡ take width table₀) × (drop width table ≡ tabulate (λ i. (getD table₀ i 0 + sum (take i row)) % 2 ^ 32) x ++ drop x (drop width table₀)) × (length table ≡ length table₀)
+Inv-loop sums₀ from to width row total₀ x₀ sums total x =
+    (x ≤ width) × (total ≡ sum (take x row) % 2 ^ 32) × (sums ≡ stored (λ i. (getD sums₀ (from + i) 0 + sum (take i row)) % 2 ^ 32) sums₀ to x) × (length sums ≡ length sums₀)
 
 abbrev μ-loop : tie.MeasureT-loop
-μ-loop table₀ width row total₀ x₀ table total x = width - x
+μ-loop sums₀ from to width row total₀ x₀ sums total x = width - x
 
 loop-holds : tie.Need-loop-holds Inv-loop μ-loop
 unfolding sum
-loop-holds c = (omega arith, refl, refl, fill-none _ _, refl)
+loop-holds c = (omega arith, refl, stored-none _ _ _, refl)
+
+add-wrapping-add-u32 : tie.Need-add-wrapping-add-u32 Inv-loop μ-loop
+add-wrapping-add-u32 c = search needs
 
 mul-wrapping-add-u32 : tie.Need-mul-wrapping-add-u32 Inv-loop μ-loop
 mul-wrapping-add-u32 c = search needs
@@ -34,14 +35,14 @@ slice-read-wrapping-add-u32 c = search needs
 wrapping-add-u32-requires : tie.Need-wrapping-add-u32-requires Inv-loop μ-loop
 wrapping-add-u32-requires c κs = search needs
 
-add-table : tie.Need-add-table Inv-loop μ-loop
-add-table c = search needs
+add-sums : tie.Need-add-sums Inv-loop μ-loop
+add-sums c = search needs
 
-mul-table : tie.Need-mul-table Inv-loop μ-loop
-mul-table c = search needs
+mul-sums : tie.Need-mul-sums Inv-loop μ-loop
+mul-sums c = search needs
 
-slice-write-table : tie.Need-slice-write-table Inv-loop μ-loop
-slice-write-table c = search needs
+slice-write-sums : tie.Need-slice-write-sums Inv-loop μ-loop
+slice-write-sums c = search needs
 
 shared-slice-read-wrapping-add-u32 : tie.Need-shared-slice-read-wrapping-add-u32 Inv-loop μ-loop
 shared-slice-read-wrapping-add-u32 c = search needs
@@ -62,23 +63,25 @@ loop-again : tie.Need-loop-again Inv-loop μ-loop
 loop-again c =
     let L = c .before .before .before .before .before .loop in
     let a = c .before .before .before .before .before .before .before .before .args in
-    let n = a .width in
-    let t = now (a .table) in (
-      omega arith,
-      c .wrapping-add-u322 .ensures ∙ running-more (now (a .row)) (L .x) (L .total) (L .inv .1) (omega arith),
-      take-set-le n (L .table) (n + L .x) _ (omega arith) ∙ L .inv .2,
-      drop-set-add n (L .table) (L .x) _ ∙ fill-more _ (L .x) (drop n t) (drop n (L .table)) _ (simp length-drop (omega arith)) (L .inv .3)
-          (c .before .before .wrapping-add-u32 .ensures ∙ running-added (now (a .row)) (L .x) (L .total) (L .inv .1) _ ∙ ap (λ (b : ℕ). (b + sum (take (L .x) (now (a .row)))) % 2 ^ 32) (same-front n (L .x) (L .table) t (L .inv .2) (c .before .before .before .before .loop-test .taken))),
-      simp length-set (L .inv .4),
+    let p = c .before .before .before .before .before .before .before .before .pre in
+    let t = c .before .before .before .before .loop-test .taken in
+    let r = now (a .row) in
+    let above = above-kept _ (now (a .sums)) (L .sums) (a .from) (a .to) (a .width) (L .x) (omega (arith, p .1)) (p .3) t (L .inv .2) in (
+      omega (arith, t),
+      c .wrapping-add-u322 .ensures ∙ running-more r (L .x) (L .total) (L .inv .1) (omega (arith, t, p .2)),
+      stored-more _ (now (a .sums)) (L .sums) (a .to) (L .x) _ (omega (arith, t, p .1)) (L .inv .2)
+          (c .before .before .wrapping-add-u32 .ensures ∙ running-added r (L .x) (L .total) (L .inv .1) _ ∙ ap (λ (b : ℕ). (b + sum (take (L .x) r)) % 2 ^ 32) above),
+      simp length-set (L .inv .3),
     )
 
 same-length : tie.Need-same-length Inv-loop μ-loop
 same-length c = search needs
 
 returns : tie.Need-returns Inv-loop μ-loop
+unfolding stored
 returns c =
     let L = c .before .loop in
-    two-rows (c .before .before .before .before .args .width) (L .table) (now (c .before .before .before .before .args .table)) _ (L .inv .2) (rw (le-antisymm (L .inv .0) (c .loop-test .left)) at (L .inv .3))
+    rw (le-antisymm (L .inv .0) (c .loop-test .left)) at (L .inv .2)
 
 pub add-row-spec : {M : Type 1} → statement M
 add-row-spec =
@@ -87,12 +90,13 @@ add-row-spec =
     Inv-loop
     μ-loop
     loop-holds
+    add-wrapping-add-u32
     mul-wrapping-add-u32
     slice-read-wrapping-add-u32
     wrapping-add-u32-requires
-    add-table
-    mul-table
-    slice-write-table
+    add-sums
+    mul-sums
+    slice-write-sums
     shared-slice-read-wrapping-add-u32
     cast-wrapping-add-u32
     wrapping-add-u32-requires-2

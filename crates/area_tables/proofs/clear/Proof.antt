@@ -7,19 +7,19 @@ use Rattle.area_tables.proofs.clear.Statement.{statement}
 use Rattle.area_tables.proofs.clear.Tie as tie
 
 abbrev Inv-loop : tie.InvT-loop
-Inv-loop table₀ n i₀ table i = Stored (λ (_ : ℕ). 0) n table₀ table i
+Inv-loop sums₀ n i₀ sums i = Stored (λ (_ : ℕ). 0) n sums₀ sums i
 
 abbrev μ-loop : tie.MeasureT-loop
-μ-loop table₀ n i₀ table i = n - i
+μ-loop sums₀ n i₀ sums i = n - i
 
 loop-holds : tie.Need-loop-holds Inv-loop μ-loop
 loop-holds c = stored-none _ _ _
 
-mul-table : tie.Need-mul-table Inv-loop μ-loop
-mul-table c = search needs
+mul-sums : tie.Need-mul-sums Inv-loop μ-loop
+mul-sums c = search needs
 
-slice-write-table : tie.Need-slice-write-table Inv-loop μ-loop
-slice-write-table c = search needs
+slice-write-sums : tie.Need-slice-write-sums Inv-loop μ-loop
+slice-write-sums c = search needs
 
 add-i : tie.Need-add-i Inv-loop μ-loop
 add-i c = search needs
@@ -43,8 +43,8 @@ clear-spec =
     Inv-loop
     μ-loop
     loop-holds
-    mul-table
-    slice-write-table
+    mul-sums
+    slice-write-sums
     add-i
     loop-less
     loop-again

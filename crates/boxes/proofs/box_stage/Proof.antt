@@ -1,25 +1,54 @@
--- `boxes::box_stage` meets its contract: the means come from the table alone, so they may take the samples' place. Assumes nothing.
+-- `boxes::box_stage` meets its contract: the plane kept behind is the one before the stage. Assumes nothing.
+use Prim.Native.Nat.{_*_}
 use native.Mathlib.Omega.{arith}
+use mathlib.Core.Path.{refl}
+use lib.ListN.{length-replicate}
 use denote.Ref.{now}
-use Rattle.boxes.proofs.Windows.{corners-le, means-all}
+use Rattle.kept_planes.proofs.Planes.{part-behind, plane-small, behind-copied}
 use borrow.Author.Needs.{needs}
 use Rattle.boxes.proofs.box_stage.Statement.{statement}
 use Rattle.boxes.proofs.box_stage.Tie as tie
 
-build-requires : tie.Need-build-requires
-build-requires c κs = search needs
+mul-n : tie.Need-mul-n
+mul-n c = record { fits = omega (arith, plane-small (c .before .before .pre .0)) }
 
-means-requires : tie.Need-means-requires
-means-requires c κs =
-    let a = c .before .before .before .before .before .before .before .before .before .args in
-    let p = c .before .before .before .before .before .before .before .before .before .pre in (
-      p .0 .width .1,
-      p .1,
-      p .2,
-      omega (arith, p .0 .whole),
-      omega (arith, p .3),
-      corners-le (a .frame) (a .window) (now (a .plane)) (p .1) (p .2) (omega (arith, c .before .before .before .before .before .before .before .before .before .good .0 .1 .1 .1 .0)) (λ i. omega (arith, c .before .before .before .before .before .before .before .before .slice-known .given i)) _ _ (c .before .before .before .before .build .ensures),
-    )
+keep-requires : tie.Need-keep-requires
+keep-requires c κs = omega (arith, c .before .before .before .pre .1)
+
+add-first-rows : tie.Need-add-first-rows
+add-first-rows c = record { fits = omega (arith, plane-small (c .before .before .before .before .before .before .pre .0)) }
+
+sub-first-rows : tie.Need-sub-first-rows
+sub-first-rows c = search needs
+
+part-first-rows-start : tie.Need-part-first-rows-start
+part-first-rows-start c = search needs
+
+part-first-rows-end : tie.Need-part-first-rows-end
+part-first-rows-end c = omega (arith, c .before .before .before .before .before .before .before .pre .1, c .before .before .work .given)
+
+slice-aggregate-first-rows : tie.Need-slice-aggregate-first-rows
+slice-aggregate-first-rows c = search needs
+
+first-rows-requires : tie.Need-first-rows-requires
+first-rows-requires c κs =
+    let a = c .before .before .before .before .before .before .before .before .before .before .args in
+    let p = c .before .before .before .before .before .before .before .before .before .before .pre in
+    let n = a .frame .height * a .frame .width in
+    let same = behind-copied n (now (a .work)) _ (omega (arith, p .1)) (c .before .before .before .before .before .before .keep .ensures) in
+    rw (part-behind n _, same) (p .0, p .2, p .3, omega (arith, p .0 .width .1), p .4)
+
+slice-aggregate-write-rows : tie.Need-slice-aggregate-write-rows
+slice-aggregate-write-rows c = search needs
+
+write-rows-requires : tie.Need-write-rows-requires
+write-rows-requires c κs =
+    let a = c .before .before .before .before .before .before .before .before .before .before .before .before .before .before .before .before .before .args in
+    let p = c .before .before .before .before .before .before .before .before .before .before .before .before .before .before .before .before .before .pre in
+    let n = a .frame .height * a .frame .width in
+    let same = behind-copied n (now (a .work)) _ (omega (arith, p .1)) (c .before .before .before .before .before .before .before .before .before .before .before .before .before .keep .ensures) in
+    let e = rw (part-behind n _, same) at (c .before .before .before .before .before .before .first-rows .ensures) in
+    (rw same (p .0), p .2, p .3, omega (arith, p .0 .width .1), omega (arith, p .4, c .before .before .before .before .sums .given), e .0, rw same (e .1))
 
 same-length : tie.Need-same-length
 same-length c = search needs
@@ -29,10 +58,26 @@ same-length-2 c = search needs
 
 returns : tie.Need-returns
 returns c =
-    let a = c .before .before .before .before .before .before .before .before .before .before .before .before .args in
-    let p = c .before .before .before .before .before .before .before .before .before .before .before .before .pre in
-    means-all (a .frame) (a .window) (now (a .plane)) (p .1) (p .2) (omega (arith, c .before .before .before .before .before .before .before .before .before .before .before .before .good .0 .1 .1 .1 .0)) (λ i. omega (arith, c .before .before .before .before .before .before .before .before .before .before .before .slice-known .given i)) _ _ (c .before .before .before .before .before .before .before .build .ensures) (now (a .plane)) _ (p .0 .whole) (c .before .before .means .ensures)
+    let a = c .before .before .before .before .before .before .before .before .before .before .before .before .before .before .before .before .before .before .before .before .before .before .before .args in
+    let p = c .before .before .before .before .before .before .before .before .before .before .before .before .before .before .before .before .before .before .before .before .before .before .before .pre in
+    let n = a .frame .height * a .frame .width in
+    let same = behind-copied n (now (a .work)) _ (omega (arith, p .1)) (c .before .before .before .before .before .before .before .before .before .before .before .before .before .before .before .before .before .before .before .keep .ensures) in
+    rw same at (c .before .before .before .before .before .write-rows .ensures)
 
 pub box-stage-spec : {M : Type 1} → statement M
 box-stage-spec =
-    tie.close (tie.spec build-requires means-requires same-length same-length-2 returns)
+    tie.close
+    (tie.spec
+    mul-n
+    keep-requires
+    add-first-rows
+    sub-first-rows
+    part-first-rows-start
+    part-first-rows-end
+    slice-aggregate-first-rows
+    first-rows-requires
+    slice-aggregate-write-rows
+    write-rows-requires
+    same-length
+    same-length-2
+    returns)

@@ -15,9 +15,9 @@ use Rattle.histograms.proofs.Counts.{length-histogram}
 use Rattle.histograms.proofs.Below.{total-none}
 use Rattle.window_columns.specs.Columns.{columnIn, sideBySide}
 use Rattle.window_columns.proofs.Placed.{starts-rows}
-use Rattle.kept_planes.proofs.StoredAt.{stored, stored-none, stored-more}
-use Rattle.kept_planes.proofs.Planes.{part-behind, plane-behind, plane-small}
-use Rattle.carried_ranks.proofs.RankWindow.{kept-bytes, level-there, rank-found}
+use Rattle.lists.proofs.StoredAt.{stored, stored-none, stored-more}
+use Rattle.kept_planes.proofs.Planes.{part-behind, plane-behind, plane-small, kept-bytes}
+use Rattle.carried_ranks.proofs.RankWindow.{level-there, rank-found}
 use borrow.Author.Needs.{needs}
 use Rattle.carried_ranks.proofs.rank_along.Statement.{statement}
 use Rattle.carried_ranks.proofs.rank_along.Tie as tie

@@ -5,7 +5,7 @@ use native.Mathlib.Omega.{arith}
 use mathlib.Core.Path.{_≡_, refl}
 use lib.ListN.{length, length-set, getD}
 use denote.Ref.{now}
-use Rattle.kept_planes.proofs.StoredAt.{stored, stored-none, stored-more, before-stored, copied}
+use Rattle.lists.proofs.StoredAt.{stored, stored-none, stored-more, before-stored, copied}
 use borrow.Author.Needs.{needs}
 use Rattle.kept_planes.proofs.keep.Statement.{statement}
 use Rattle.kept_planes.proofs.keep.Tie as tie

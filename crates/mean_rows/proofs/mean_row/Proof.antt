@@ -8,10 +8,10 @@ use Rattle.mean_rows.proofs.mean_row.Statement.{statement}
 use Rattle.mean_rows.proofs.mean_row.Tie as tie
 
 abbrev Inv-loop : tie.InvT-loop
-Inv-loop table below across w area by dst₀ u₀ dst u = Stored (λ i. (2 * corners table below across i + area) / (2 * area)) w dst₀ dst u
+Inv-loop upper lower across w area by dst₀ u₀ dst u = Stored (λ i. (2 * corners upper lower across i + area) / (2 * area)) w dst₀ dst u
 
 abbrev μ-loop : tie.MeasureT-loop
-μ-loop table below across w area by dst₀ u₀ dst u = w - u
+μ-loop upper lower across w area by dst₀ u₀ dst u = w - u
 
 loop-holds : tie.Need-loop-holds Inv-loop μ-loop
 loop-holds c = stored-none _ _ _
@@ -21,8 +21,8 @@ window-sum-requires c κs = search needs
 
 mean-requires : tie.Need-mean-requires Inv-loop μ-loop
 mean-requires c κs =
-    let p = c .before .before .before .before .before .pre in
-    (p .2, p .3, rw (c .window-sum .ensures) (p .5 (c .before .before .loop .u) (c .before .loop-test .taken)), p .4)
+    let p = c .before .before .before .before .before .before .pre in
+    (p .3, p .4, rw (c .window-sum .ensures) (p .6 (c .before .before .loop .u) (c .before .loop-test .taken)), p .5)
 
 slice-write-dst : tie.Need-slice-write-dst Inv-loop μ-loop
 slice-write-dst c = search needs
@@ -35,8 +35,8 @@ loop-less c = search needs
 
 loop-again : tie.Need-loop-again Inv-loop μ-loop
 loop-again c =
-    let n = c .before .before .before .before .before .before .args .area in
-    stored-more (c .before .before .before .loop .inv) (c .before .before .before .before .before .before .pre .0) (c .before .before .loop-test .taken) (c .mean .ensures ∙ ap (λ (t : ℕ). (2 * t + n) / (2 * n)) (c .before .window-sum .ensures))
+    let n = c .before .before .before .before .before .before .before .args .area in
+    stored-more (c .before .before .before .loop .inv) (c .before .before .before .before .before .before .before .pre .0) (c .before .before .loop-test .taken) (c .mean .ensures ∙ ap (λ (t : ℕ). (2 * t + n) / (2 * n)) (c .before .window-sum .ensures))
 
 same-length : tie.Need-same-length Inv-loop μ-loop
 same-length c = search needs

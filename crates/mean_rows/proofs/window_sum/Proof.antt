@@ -10,17 +10,14 @@ use Rattle.mean_rows.proofs.window_sum.Tie as tie
 add-wrapping-sub-u32 : tie.Need-add-wrapping-sub-u32
 add-wrapping-sub-u32 c = search needs
 
-add-wrapping-sub-u32-2 : tie.Need-add-wrapping-sub-u32-2
-add-wrapping-sub-u32-2 c = search needs
-
 mul-wrapping-sub-u32 : tie.Need-mul-wrapping-sub-u32
 mul-wrapping-sub-u32 c = search needs
 
 shared-slice-read-wrapping-sub-u32 : tie.Need-shared-slice-read-wrapping-sub-u32
 shared-slice-read-wrapping-sub-u32 c = search needs
 
-add-wrapping-sub-u32-3 : tie.Need-add-wrapping-sub-u32-3
-add-wrapping-sub-u32-3 c = search needs
+add-wrapping-sub-u32-2 : tie.Need-add-wrapping-sub-u32-2
+add-wrapping-sub-u32-2 c = search needs
 
 mul-wrapping-sub-u32-2 : tie.Need-mul-wrapping-sub-u32-2
 mul-wrapping-sub-u32-2 c = search needs
@@ -30,9 +27,6 @@ shared-slice-read-wrapping-sub-u32-2 c = search needs
 
 wrapping-sub-u32-requires : tie.Need-wrapping-sub-u32-requires
 wrapping-sub-u32-requires c κs = search needs
-
-add-wrapping-sub-u32-4 : tie.Need-add-wrapping-sub-u32-4
-add-wrapping-sub-u32-4 c = search needs
 
 mul-wrapping-sub-u32-3 : tie.Need-mul-wrapping-sub-u32-3
 mul-wrapping-sub-u32-3 c = search needs
@@ -55,10 +49,10 @@ wrapping-sub-u32-requires-3 c κs = search needs
 returns : tie.Need-returns
 unfolding corners
 returns c =
-    let a = c .before .before .before .before .before .before .before .before .args in
+    let a = c .before .before .before .before .before .before .before .before .before .args in
     three-differences _ _ _ _ (c .before .before .before .before .wrapping-sub-u32 .result) (c .before .wrapping-sub-u322 .result) _
-    (omega (arith, c .before .before .before .before .before .shared-slice-known3 .given (a .across + a .u)))
-    (omega (arith, c .before .before .before .before .before .shared-slice-known3 .given (a .below + a .u)))
+    (omega (arith, c .before .before .before .before .before .before .before .before .shared-slice-known .given (a .across + a .u)))
+    (omega (arith, c .before .before .before .before .before .before .before .shared-slice-known2 .given (a .u)))
     (omega arith)
     (c .before .before .before .before .wrapping-sub-u32 .ensures) (c .before .wrapping-sub-u322 .ensures) (c .wrapping-sub-u323 .ensures)
 
@@ -67,14 +61,12 @@ window-sum-spec =
     tie.close
     (tie.spec
     add-wrapping-sub-u32
-    add-wrapping-sub-u32-2
     mul-wrapping-sub-u32
     shared-slice-read-wrapping-sub-u32
-    add-wrapping-sub-u32-3
+    add-wrapping-sub-u32-2
     mul-wrapping-sub-u32-2
     shared-slice-read-wrapping-sub-u32-2
     wrapping-sub-u32-requires
-    add-wrapping-sub-u32-4
     mul-wrapping-sub-u32-3
     shared-slice-read-wrapping-sub-u32-3
     mul-wrapping-sub-u32-4

@@ -32,19 +32,13 @@ weighted-stage-requires c κs =
 enum-known-kind : tie.Need-enum-known-kind
 enum-known-kind c = search needs
 
-slice-relend-prefix-box-stage : tie.Need-slice-relend-prefix-box-stage
-slice-relend-prefix-box-stage c = search needs
-
-slice-aggregate-box-stage : tie.Need-slice-aggregate-box-stage
-slice-aggregate-box-stage c = let a = c .before .before .before .before .before .before .args in sym (length-take (a .h * a .w) (now (a .work)) ∙ omega (arith, c .before .before .before .before .before .before .pre .4))
-
 box-stage-requires : tie.Need-box-stage-requires
 box-stage-requires c κs =
     let a = c .before .before .before .before .before .before .before .args in
     let p = c .before .before .before .before .before .before .before .pre in
     let e = c .before .before .before .kind .given .1 in
     let d = box-does (a .w) (a .h) (a .s) (take (a .h * a .w) (now (a .work))) (p .6 .0) (p .6 .1) e in
-    (front-frame (a .w) (a .h) (a .s) (now (a .work)) (p .0) (p .1) (p .2) (p .3) (p .4), d .1, d .2, box-room (a .w) (a .h) (a .s) (take (a .h * a .w) (now (a .work))) (p .6 .0) (p .6 .1) e (p .6 .2))
+    (front-frame (a .w) (a .h) (a .s) (now (a .work)) (p .0) (p .1) (p .2) (p .3) (p .4), p .4, d .1, d .2, box-room (a .w) (a .h) (a .s) (take (a .h * a .w) (now (a .work))) (p .6 .0) (p .6 .1) e (p .6 .2))
 
 enum-known-kind-2 : tie.Need-enum-known-kind-2
 enum-known-kind-2 c = search needs
@@ -88,7 +82,7 @@ returns-2 : tie.Need-returns-2
 returns-2 c =
     let a = c .before .before .before .before .before .before .before .before .before .before .before .before .args in
     let x = take (a .h * a .w) (now (a .work)) in
-    λ t k. front-put _ (a .w) (a .h) _ _ (c .before .before .before .before .box-stage .ensures ∙ box-plane (a .w) (a .h) (a .s) x t k (c .before .before .before .before .before .before .before .before .kind .given .1))
+    λ t k. c .before .before .before .before .box-stage .ensures ∙ box-plane (a .w) (a .h) (a .s) x t k (c .before .before .before .before .before .before .before .before .kind .given .1)
 
 same-length-5 : tie.Need-same-length-5
 same-length-5 c = search needs
@@ -118,8 +112,6 @@ run-stage-spec =
     slice-aggregate-weighted-stage
     weighted-stage-requires
     enum-known-kind
-    slice-relend-prefix-box-stage
-    slice-aggregate-box-stage
     box-stage-requires
     enum-known-kind-2
     rank-stage-requires

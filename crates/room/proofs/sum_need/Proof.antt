@@ -15,18 +15,18 @@ use Rattle.room.proofs.sum_need.Statement.{statement}
 use Rattle.room.proofs.sum_need.Tie as tie
 
 abbrev Inv-loop : tie.InvT-loop
-Inv-loop bytes w h count need₀ at₀ k₀ need at k = Walk bytes count k at × (sumNeed w h (recipeStages bytes) ≡ max need (sumNeed w h (stagesOf (count - k) (drop at bytes))))
+Inv-loop bytes w count need₀ at₀ k₀ need at k = Walk bytes count k at × (sumNeed w (recipeStages bytes) ≡ max need (sumNeed w (stagesOf (count - k) (drop at bytes))))
 
 abbrev μ-loop : tie.MeasureT-loop
-μ-loop bytes w h count need₀ at₀ k₀ need at k = count - k
+μ-loop bytes w count need₀ at₀ k₀ need at k = count - k
 
 shared-slice-read-count : tie.Need-shared-slice-read-count Inv-loop μ-loop
-shared-slice-read-count c = omega (arith, walk-start (now (c .before .before .args .bytes)) (c .before .before .pre .2) .0)
+shared-slice-read-count c = omega (arith, walk-start (now (c .before .before .args .bytes)) (c .before .before .pre .1) .0)
 
 loop-holds : tie.Need-loop-holds Inv-loop μ-loop
 unfolding recipeStages
 loop-holds c =
-    let w = walk-start (now (c .before .before .args .bytes)) (c .before .before .pre .2) in
+    let w = walk-start (now (c .before .before .args .bytes)) (c .before .before .pre .1) in
     (w .1, rw sub-zero (omega arith))
 
 sub-part : tie.Need-sub-part Inv-loop μ-loop
@@ -54,8 +54,8 @@ add-at c = record { fits = omega (arith, c .stage-length .ensures .2, walk-near 
 add-k : tie.Need-add-k Inv-loop μ-loop
 add-k c = search needs
 
-table-size-requires : tie.Need-table-size-requires Inv-loop μ-loop
-table-size-requires c κs = (c .before .before .before .before .before .before .before .pre .0, c .before .before .before .before .before .before .before .pre .1, (_, c .before .read-stage .ensures))
+held-sums-requires : tie.Need-held-sums-requires Inv-loop μ-loop
+held-sums-requires c κs = (c .before .before .before .before .before .before .before .pre .0, (_, c .before .read-stage .ensures))
 
 larger-requires : tie.Need-larger-requires Inv-loop μ-loop
 larger-requires c κs = search needs
@@ -72,14 +72,14 @@ loop-again c =
     let m = tail-mid (L .at) b in
     let len = rw m at (n .0) in (
       walk-more b (L .inv .0) t _ len (rw m at (n .1)) (n .2),
-      L .inv .1 ∙ rw (walk-stages b (L .inv .0) t _ len) (need-more _ _ _ _ _ _ (rw m at (c .before .table-size .ensures _ (c .before .before .before .read-stage .ensures))) ∙ rw (c .larger .ensures)),
+      L .inv .1 ∙ rw (walk-stages b (L .inv .0) t _ len) (need-more _ _ _ _ _ (rw m at (c .before .held-sums .ensures _ (c .before .before .before .read-stage .ensures))) ∙ rw (c .larger .ensures)),
     )
 
 returns : tie.Need-returns Inv-loop μ-loop
 returns c =
     let b = now (c .before .before .before .before .args .bytes) in
     let L = c .before .loop in
-    sym (L .inv .1 ∙ rw (walk-end b _ (L .k) (L .at) (c .loop-test .left)) (need-none _ _ _))
+    sym (L .inv .1 ∙ rw (walk-end b _ (L .k) (L .at) (c .loop-test .left)) (need-none _ _))
 
 pub sum-need-spec : {M : Type 1} → statement M
 sum-need-spec =
@@ -96,7 +96,7 @@ sum-need-spec =
     stage-length-requires
     add-at
     add-k
-    table-size-requires
+    held-sums-requires
     larger-requires
     loop-less
     loop-again

@@ -18,7 +18,7 @@ use Rattle.stages.proofs.run_stages.Tie as tie
 abbrev Inv-loop : tie.InvT-loop
 Inv-loop bytes w h work₀ rows₀ sums₀ count at₀ k₀ work rows sums at k =
     Walk bytes count k at × (length work ≡ length work₀) × (length rows ≡ length rows₀) × (length sums ≡ length sums₀)
-    × (sumNeed w h (stagesOf (count - k) (drop at bytes)) ≤ length sums)
+    × (sumNeed w (stagesOf (count - k) (drop at bytes)) ≤ length sums)
     × (written w h (recipeStages bytes) (take (h * w) work₀) ≡ written w h (stagesOf (count - k) (drop at bytes)) (take (h * w) work))
 
 abbrev μ-loop : tie.MeasureT-loop
@@ -65,7 +65,7 @@ run-stage-requires c κs =
     let L = c .before .before .before .before .before .before .before .loop in
     let m = tail-mid (L .at) b in
     let e = walk-stages b (L .inv .0) (c .before .before .before .before .before .before .loop-test .taken) _ (rw m at (c .before .before .before .stage-length .ensures .0)) in
-    (p .0, p .1, p .2, p .3, rw (L .inv .1) (p .4), rw (L .inv .2) (p .5), (_, c .before .before .before .before .read-stage .ensures, rw m (first-fits _ _ _ _ (rw e at (L .inv .4)))))
+    (p .0, p .1, p .2, p .3, rw (L .inv .1) (p .4), rw (L .inv .2) (p .5), (_, c .before .before .before .before .read-stage .ensures, rw m (first-fits _ _ _ (rw e at (L .inv .4)))))
 
 loop-less : tie.Need-loop-less Inv-loop μ-loop
 loop-less c = search needs
@@ -83,7 +83,7 @@ loop-again c =
       c .before .before .before .before .work .given ∙ L .inv .1,
       c .before .before .rows .given ∙ L .inv .2,
       c .before .sums .given ∙ L .inv .3,
-      rw (c .before .sums .given) (rest-fit _ _ _ _ (rw e at (L .inv .4))),
+      rw (c .before .sums .given) (rest-fit _ _ _ (rw e at (L .inv .4))),
       L .inv .5 ∙ rw e (chain-more _ _ _ _ _ _ (rw m at (c .before .before .before .before .before .run-stage .ensures _ (c .before .before .before .before .before .before .before .before .before .before .read-stage .ensures)))),
     )
 

@@ -1,2 +1,0 @@
--- Windows in a whole summed-area table, definitions only.
-pub mod WindowCorners

@@ -1,0 +1,131 @@
+-- `boxes::mean_row` meets its contract: the row after the lower edge is the upper one. Assumes nothing.
+use Prim.Native.Nat.{ℕ, _+_, _*_}
+use native.Mathlib.Omega.{arith}
+use mathlib.Core.Path.{_≡_}
+use lib.ListN.{length-drop}
+use denote.Ref.{now}
+use Rattle.lists.proofs.Part.{tail-mid}
+use Rattle.model.specs.Window as Model
+use Rattle.model_laws.proofs.Window.{area-le}
+use Rattle.boxes.specs.WindowCorners.{cornersAt}
+use Rattle.boxes.proofs.Edges.{upper-edge, upper-fits, lower-fits}
+use borrow.Author.Needs.{needs}
+use Rattle.boxes.proofs.mean_row.Statement.{statement}
+use Rattle.boxes.proofs.mean_row.Tie as tie
+
+area-requires : tie.Need-area-requires
+area-requires c κs = search needs
+
+mul-across : tie.Need-mul-across
+mul-across c = search needs
+
+add-across : tie.Need-add-across
+add-across c = search needs
+
+place-after-requires : tie.Need-place-after-requires
+place-after-requires c κs =
+    let p = c .before .before .before .before .pre in
+    (p .0, p .1, p .2, (p .6 .0 + (2 * c .before .before .before .before .args .window .s + 1), p .6 .1))
+
+mul-mean-row : tie.Need-mul-mean-row
+mul-mean-row c =
+    let a = c .before .before .before .before .before .args in
+    let p = c .before .before .before .before .before .pre in
+    let v = p .6 .0 in
+    let eu = c .place-after .ensures (v + (2 * a .window .s + 1)) (p .6 .1) in
+    record { fits = omega (arith, upper-fits (a .w) (a .window) v (a .lower) _ (p .6 .1) eu (p .3)) }
+
+sub-mean-row : tie.Need-sub-mean-row
+sub-mean-row c =
+    let a = c .before .before .before .before .before .args in
+    let p = c .before .before .before .before .before .pre in
+    let v = p .6 .0 in
+    let eu = c .place-after .ensures (v + (2 * a .window .s + 1)) (p .6 .1) in
+    omega (arith, upper-fits (a .w) (a .window) v (a .lower) _ (p .6 .1) eu (p .3))
+
+part-mean-row-start : tie.Need-part-mean-row-start
+part-mean-row-start c =
+    let a = c .before .before .before .before .before .args in
+    let p = c .before .before .before .before .before .pre in
+    let v = p .6 .0 in
+    let eu = c .place-after .ensures (v + (2 * a .window .s + 1)) (p .6 .1) in
+    omega (arith, upper-fits (a .w) (a .window) v (a .lower) _ (p .6 .1) eu (p .3))
+
+part-mean-row-end : tie.Need-part-mean-row-end
+part-mean-row-end c = search needs
+
+mul-mean-row-2 : tie.Need-mul-mean-row-2
+mul-mean-row-2 c =
+    let a = c .before .before .before .before .before .before .args in
+    let p = c .before .before .before .before .before .before .pre in
+    let v = p .6 .0 in
+    let eu = c .before .place-after .ensures (v + (2 * a .window .s + 1)) (p .6 .1) in
+    record { fits = omega (arith, lower-fits (a .w) (a .window) v (a .lower) _ (p .6 .1) eu (p .3)) }
+
+sub-mean-row-2 : tie.Need-sub-mean-row-2
+sub-mean-row-2 c =
+    let a = c .before .before .before .before .before .before .args in
+    let p = c .before .before .before .before .before .before .pre in
+    let v = p .6 .0 in
+    let eu = c .before .place-after .ensures (v + (2 * a .window .s + 1)) (p .6 .1) in
+    omega (arith, lower-fits (a .w) (a .window) v (a .lower) _ (p .6 .1) eu (p .3))
+
+part-mean-row-start-2 : tie.Need-part-mean-row-start-2
+part-mean-row-start-2 c =
+    let a = c .before .before .before .before .before .before .args in
+    let p = c .before .before .before .before .before .before .pre in
+    let v = p .6 .0 in
+    let eu = c .before .place-after .ensures (v + (2 * a .window .s + 1)) (p .6 .1) in
+    omega (arith, lower-fits (a .w) (a .window) v (a .lower) _ (p .6 .1) eu (p .3))
+
+part-mean-row-end-2 : tie.Need-part-mean-row-end-2
+part-mean-row-end-2 c = search needs
+
+mean-row-requires : tie.Need-mean-row-requires
+unfolding cornersAt Model.area
+mean-row-requires c κs =
+    let a = c .before .before .before .before .before .before .before .before .args in
+    let p = c .before .before .before .before .before .before .before .before .pre in
+    let v = p .6 .0 in
+    let eu = c .before .before .before .place-after .ensures (v + (2 * a .window .s + 1)) (p .6 .1) in
+    let n = now (a .sums) in
+    let upper = c .before .before .before .place-after .result in (
+      p .4,
+      rw (tail-mid upper n, length-drop) (omega (arith, upper-fits (a .w) (a .window) v (a .lower) _ (p .6 .1) eu (p .3))),
+      rw (tail-mid (a .lower) n, length-drop) (omega (arith, lower-fits (a .w) (a .window) v (a .lower) _ (p .6 .1) eu (p .3))),
+      rw (c .before .before .before .before .before .area .ensures) (omega arith),
+      rw (c .before .before .before .before .before .area .ensures) (area-le (a .window .r) (a .window .s) 15 15 (p .1) (p .2)),
+      rw (c .before .before .before .before .before .area .ensures) (p .5),
+      λ u k. rw (c .before .before .before .before .before .area .ensures, tail-mid upper n, tail-mid (a .lower) n, upper-edge (a .w) (a .window) v (a .lower) upper (p .6 .1) eu, p .6 .1) (p .6 .2 u k),
+    )
+
+same-length : tie.Need-same-length
+same-length c = search needs
+
+returns : tie.Need-returns
+unfolding cornersAt
+returns c =
+    let a = c .before .before .before .before .before .before .before .before .before .before .before .args in
+    let n = now (a .sums) in
+    let upper = c .before .before .before .before .before .before .place-after .result in
+    λ v e. rw (c .before .before .before .before .before .before .before .before .area .ensures, tail-mid upper n, tail-mid (a .lower) n, upper-edge (a .w) (a .window) v (a .lower) upper e (c .before .before .before .before .before .before .place-after .ensures (v + (2 * a .window .s + 1)) e), e) at (c .before .before .mean-row .ensures)
+
+pub mean-row-spec : {M : Type 1} → statement M
+mean-row-spec =
+    tie.close
+    (tie.spec
+    area-requires
+    mul-across
+    add-across
+    place-after-requires
+    mul-mean-row
+    sub-mean-row
+    part-mean-row-start
+    part-mean-row-end
+    mul-mean-row-2
+    sub-mean-row-2
+    part-mean-row-start-2
+    part-mean-row-end-2
+    mean-row-requires
+    same-length
+    returns)
