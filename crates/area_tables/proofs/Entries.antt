@@ -3,17 +3,24 @@ use Prim.Native.Nat.{ℕ, _+_, _-_, _*_, _%_, _^_, _≤_}
 use native.Mathlib.Nat.{mod-add-mod}
 use native.Mathlib.Omega.{arith}
 use mathlib.Core.Path.{_≡_, refl, ap, _∙_}
-use mathlib.Core.List.{List, _++_}
+use mathlib.Core.List.{List, _++_, append-assoc}
 use lib.ListN.{take, drop}
-use lib.Seq.{take-take}
+use lib.Seq.{take-take, take-at, drop-at}
 use Rattle.integers.specs.Sum.{sum}
 use Rattle.lists.specs.Tabulate.{tabulate, raster}
+use Rattle.lists.proofs.Tabulate.{length-tabulate, tabulate-add}
 use Rattle.stage_values.specs.declared.Window.{Window}
 use Rattle.frame.specs.declared.Frame.{Frame}
 use Rattle.frame.specs.Padded.{padded}
 use Rattle.area_tables.specs.Table.{extended, entry}
 use Rattle.area_tables.proofs.Sums.{total-row}
-use Rattle.area_tables.proofs.Rows.{tabulate-part}
+
+-- entries from a on, of a front that is tabulated
+tabulate-part : (f : ℕ → ℕ) (a x n : ℕ) (rest : List ℕ) → a + x ≤ n → take x (drop a (tabulate f n ++ rest)) ≡ tabulate (λ i. f (a + i)) x
+tabulate-part f a x n rest h =
+    let split : n ≡ a + (x + (n - a - x)) = omega arith in
+    rw (split, tabulate-add f a, append-assoc, drop-at (tabulate f a) _ a (length-tabulate f a), tabulate-add (λ i. f (a + i)) x, append-assoc)
+    (take-at (tabulate (λ i. f (a + i)) x) _ x (length-tabulate _ x))
 
 module _ (f : Frame) (w : Window) (samples : List ℕ) where
   pub entry-none : (x : ℕ) → entry f w samples x 0 ≡ 0

@@ -1,29 +1,13 @@
 -- Sums of rasters, by rows and columns. Assumes nothing.
-use Prim.Native.Nat.{ℕ, zero, suc, _+_, _<_}
-use native.Mathlib.Nat.{not-suc-le-zero, le-of-suc-le-suc, add-suc, add-zero}
+use Prim.Native.Nat.{ℕ, zero, suc, _+_}
+use native.Mathlib.Nat.{add-suc, add-zero}
 use native.Mathlib.Numerals.{add-one}
 use native.Mathlib.Omega.{arith}
 use mathlib.Core.Path.{_≡_, refl}
-use mathlib.Core.List.{List, [], _∷_, _++_}
-use lib.ListN.{length, take, getD}
 use Rattle.integers.specs.Sum.{sum}
 use Rattle.lists.specs.Tabulate.{tabulate, raster}
 use Rattle.lists.proofs.Tabulate.{tabulate-add}
-
-pub sum-append : (xs ys : List ℕ) → sum (xs ++ ys) ≡ sum xs + sum ys
-unfolding sum
-sum-append [] ys = omega arith
-sum-append (x ∷ xs) ys = omega (arith, sum-append xs ys)
-
--- the front of a list, one element longer
-sum-take-suc : (n : ℕ) (xs : List ℕ) → n < length xs → sum (take (suc n) xs) ≡ sum (take n xs) + getD xs n 0
-unfolding sum
-sum-take-suc n [] h = absurd (not-suc-le-zero h)
-sum-take-suc zero (x ∷ xs) h = omega arith
-sum-take-suc (suc n) (x ∷ xs) h = omega (arith, sum-take-suc n xs (le-of-suc-le-suc h))
-
-pub sum-take-more : (n : ℕ) (xs : List ℕ) → n < length xs → sum (take (n + 1) xs) ≡ sum (take n xs) + getD xs n 0
-sum-take-more n xs h = rw add-one (sum-take-suc n xs h)
+use Rattle.running_sums.proofs.Sums.{sum-append}
 
 module _ (f : ℕ → ℕ → ℕ) where
   -- the first x columns and y rows

@@ -2,11 +2,9 @@
 use frame::Frame;
 use stage_values::Window;
 ghost use mathlib.Core.Path.{_≡_};
-ghost use mathlib.Core.Logic.{_⊎_};
 ghost use mathlib.Core.List.{_++_};
-ghost use Prim.Native.Nat.{_+_, _*_, _%_, _^_, _≤_};
-ghost use lib.ListN.{length, getD, take, drop};
-ghost use Rattle.integers.specs.Sum.{sum};
+ghost use Prim.Native.Nat.{_+_, _*_, _≤_};
+ghost use lib.ListN.{length, drop};
 ghost use Rattle.lists.specs.Tabulate.{tabulate};
 ghost use Rattle.frame.specs.Framed.{Framed};
 ghost use Rattle.table_sizes.specs.Circle.{circleSize, placeOf};
@@ -24,21 +22,8 @@ fn clear(sums: &mut [u32], n: usize)
     }
 }
 
-// The row of sums at `to`, from the row above it at `from` and the sums along the samples of `row`.
-fn add_row(sums: &mut [u32], from: usize, to: usize, width: usize, row: &[u8])
-    requires { ⌜ (from + width ≤ length (now sums)) × (to + width ≤ length (now sums)) × (width ≤ length (now row)) × ((to ≤ from) ⊎ (from + width ≤ to)) ⌝ }
-    ensures { λ _. ⌜ now (sums .exit) ≡ take to (now (sums .entry)) ++ tabulate (λ x. (getD (now (sums .entry)) (from + x) 0 + sum (take x (now (row .entry)))) % 2 ^ 32) width ++ drop (to + width) (now (sums .entry)) ⌝ }
-{
-    let mut total: u32 = 0;
-    let mut x = 0;
-    while x < width {
-        sums[to + x] = std::num::wrapping_add_u32(sums[from + x], total);
-        total = std::num::wrapping_add_u32(total, row[x] as u32);
-        x += 1;
-    }
-}
-
-// The table's row k + 1 in the place of the oldest, from row k, which lies at `from`, and one row of the extended frame. `row` is where that is made.
+// The table's row k + 1 in the place of the oldest, from row k, which lies at `from`, and one row of the
+// extended frame. That is made in `row`, sums of its samples in `fours`.
 pub fn next_row(
     frame: Frame,
     window: Window,
@@ -46,22 +31,18 @@ pub fn next_row(
     k: usize,
     from: usize,
     row: &mut [u8],
+    fours: &mut [u16],
     sums: &mut [u32],
 ) -> usize
-    requires { ⌜ Framed frame (now plane) × (window .r ≤ 15) × (window .s ≤ 15) × (k ≤ 8222) × (from ≡ placeOf (frame .width) window k) × (frame .width + 31 ≤ length (now row)) × (circleSize (frame .width) window ≤ length (now sums)) × HeldTable frame window (now plane) k (now sums) ⌝ }
+    requires { ⌜ Framed frame (now plane) × (window .r ≤ 15) × (window .s ≤ 15) × (k ≤ 8222) × (from ≡ placeOf (frame .width) window k) × (frame .width + 34 ≤ length (now row)) × (frame .width + 33 ≤ length (now fours)) × (circleSize (frame .width) window ≤ length (now sums)) × HeldTable frame window (now plane) k (now sums) ⌝ }
     ensures { λ to. ⌜ (to ≡ placeOf (frame .width) window (k + 1)) × HeldTable frame window (now (plane .entry)) (k + 1) (now (sums .exit)) ⌝ }
 {
     let w = frame.width;
     let first = 15 - window.r;
     let to = table_sizes::place_after(w, window, from);
     frame::padded_row(frame, plane, 15 - window.s + k, row);
-    add_row(
-        sums,
-        from,
-        to,
-        table_sizes::table_width(w, window),
-        &row[first..],
-    );
+    let width = table_sizes::table_width(w, window);
+    running_sums::add_row(sums, from, to, width, &row[first..], fours);
     to
 }
 
@@ -71,9 +52,10 @@ pub fn first_rows(
     window: Window,
     plane: &[u8],
     row: &mut [u8],
+    fours: &mut [u16],
     sums: &mut [u32],
 ) -> usize
-    requires { ⌜ Framed frame (now plane) × (window .r ≤ 15) × (window .s ≤ 15) × (frame .width + 31 ≤ length (now row)) × (circleSize (frame .width) window ≤ length (now sums)) ⌝ }
+    requires { ⌜ Framed frame (now plane) × (window .r ≤ 15) × (window .s ≤ 15) × (frame .width + 34 ≤ length (now row)) × (frame .width + 33 ≤ length (now fours)) × (circleSize (frame .width) window ≤ length (now sums)) ⌝ }
     ensures { λ last. ⌜ (last ≡ placeOf (frame .width) window (2 * window .s)) × HeldTable frame window (now (plane .entry)) (2 * window .s) (now (sums .exit)) ⌝ }
 {
     let w = frame.width;
@@ -82,7 +64,7 @@ pub fn first_rows(
     let mut at = 0;
     let mut k = 0;
     while k < 2 * s {
-        at = next_row(frame, window, plane, k, at, row, sums);
+        at = next_row(frame, window, plane, k, at, row, fours, sums);
         k += 1;
     }
     at

@@ -33,17 +33,18 @@ fn mean_row(sums: &[u32], w: usize, window: Window, lower: usize, by: u32, dst: 
     mean_rows::mean_row(&sums[upper..], &sums[lower..], across, w, n, by, dst);
 }
 
-// All rows of means, into the plane at the front of `work`. The plane behind it holds the samples before; rows of them are made in `row`. The row of sums above
-// the lower edge of the first windows lies at `last`.
+// All rows of means, into the plane at the front of `work`. The plane behind it holds the samples before; rows of them are made in `row`, sums of a row's
+// samples in `fours`. The row of sums above the lower edge of the first windows lies at `last`.
 fn write_rows(
     frame: Frame,
     window: Window,
     last: usize,
     work: &mut [u8],
     row: &mut [u8],
+    fours: &mut [u16],
     sums: &mut [u32],
 )
-    requires { ⌜ Framed frame (kept frame (now work)) × (window .r ≤ 15) × (window .s ≤ 15) × (frame .width + 31 ≤ length (now row)) × (circleSize (frame .width) window ≤ length (now sums)) × (last ≡ placeOf (frame .width) window (2 * window .s)) × HeldTable frame window (kept frame (now work)) (2 * window .s) (now sums) ⌝ }
+    requires { ⌜ Framed frame (kept frame (now work)) × (window .r ≤ 15) × (window .s ≤ 15) × (frame .width + 34 ≤ length (now row)) × (frame .width + 33 ≤ length (now fours)) × (circleSize (frame .width) window ≤ length (now sums)) × (last ≡ placeOf (frame .width) window (2 * window .s)) × HeldTable frame window (kept frame (now work)) (2 * window .s) (now sums) ⌝ }
     ensures { λ _. ⌜ take (frame .height * frame .width) (now (work .exit)) ≡ worked frame (boxResult (window .r) (window .s)) (kept frame (now (work .entry))) ⌝ }
 {
     let w = frame.width;
@@ -56,7 +57,7 @@ fn write_rows(
     let mut v = 0;
     while v < h {
         let behind = &work[n..n + n];
-        lower = area_tables::next_row(frame, window, behind, 2 * s + v, lower, row, sums);
+        lower = area_tables::next_row(frame, window, behind, 2 * s + v, lower, row, fours, sums);
         mean_row(sums, w, window, lower, by, &mut work[at..]);
         at += w;
         v += 1;
@@ -71,8 +72,9 @@ pub fn box_stage(frame: Frame, window: Window, work: &mut [u8], sums: &mut [u32]
     let w = frame.width;
     let h = frame.height;
     let n = h * w;
-    let mut row = [0u8; 8224];
+    let mut row = [0u8; 8232];
+    let mut fours = [0u16; 8232];
     kept_planes::keep(work, n);
-    let last = area_tables::first_rows(frame, window, &work[n..n + n], &mut row, sums);
-    write_rows(frame, window, last, work, &mut row, sums);
+    let last = area_tables::first_rows(frame, window, &work[n..n + n], &mut row, &mut fours, sums);
+    write_rows(frame, window, last, work, &mut row, &mut fours, sums);
 }

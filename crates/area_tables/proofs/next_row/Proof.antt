@@ -39,12 +39,12 @@ part-add-row-end c = search needs
 
 add-row-requires : tie.Need-add-row-requires
 add-row-requires c κs =
-    let a = c .before .before .before .before .before .before .before .before .before .before .before .before .before .before .args in
-    let p = c .before .before .before .before .before .before .before .before .before .before .before .before .before .before .pre in
+    let a = c .before .before .before .before .before .before .before .before .before .before .before .before .before .before .before .before .args in
+    let p = c .before .before .before .before .before .before .before .before .before .before .before .before .before .before .before .before .pre in
     let w = a .frame .width in
-    let row = c .before .before .before .before .before .before .padded-row .last .1 .1 .1 .0 in
-    rw (c .before .before .table-width .ensures, c .before .before .before .before .before .before .before .before .before .place-after .ensures (a .k) (p .4), p .4)
-    (place-fits w (a .window) (a .k) (p .6), place-fits w (a .window) (a .k + 1) (p .6), rw (tail-mid (15 - a .window .r) row, length-drop) (omega (arith, c .before .before .before .before .before .row .given, p .1, p .5)), next-apart w (a .window) (a .k))
+    let row = c .before .before .before .before .before .before .before .padded-row .last .1 .1 .1 .0 in
+    rw (c .before .before .before .before .table-width .ensures, c .before .before .before .before .before .before .before .before .before .before .place-after .ensures (a .k) (p .4), p .4)
+    (place-fits w (a .window) (a .k) (p .7), place-fits w (a .window) (a .k + 1) (p .7), next-apart w (a .window) (a .k), rw (tail-mid (15 - a .window .r) row, length-drop) (omega (arith, c .before .before .before .before .before .before .row .given, p .1, p .5)), omega (arith, p .1, p .6))
 
 same-length : tie.Need-same-length
 same-length c = search needs
@@ -52,14 +52,17 @@ same-length c = search needs
 same-length-2 : tie.Need-same-length-2
 same-length-2 c = search needs
 
+same-length-3 : tie.Need-same-length-3
+same-length-3 c = search needs
+
 returns : tie.Need-returns
 unfolding stored
 returns c =
-    let a = c .before .before .before .before .before .before .before .before .before .before .before .before .before .before .before .before .before .args in
-    let p = c .before .before .before .before .before .before .before .before .before .before .before .before .before .before .before .before .before .pre in
-    let to = c .before .before .before .before .before .before .before .before .before .before .before .before .place-after .ensures (a .k) (p .4) in
-    let row = c .before .before .before .before .before .before .before .before .before .padded-row .last .1 .1 .1 .0 in
-    (to, held-more (a .frame) (a .window) (now (a .plane)) row _ (length row - (15 - a .window .r)) (a .k) (now (a .sums)) _ (p .1) (omega (arith, p .1, p .5, c .before .before .before .before .before .before .before .before .row .given)) (p .6) (p .7) (c .before .before .before .before .before .before .before .before .before .padded-row .ensures) (rw (c .before .before .before .before .before .table-width .ensures, to, p .4) at (c .before .before .add-row .ensures)))
+    let a = c .before .before .before .before .before .before .before .before .before .before .before .before .before .before .before .before .before .before .before .before .before .args in
+    let p = c .before .before .before .before .before .before .before .before .before .before .before .before .before .before .before .before .before .before .before .before .before .pre in
+    let to = c .before .before .before .before .before .before .before .before .before .before .before .before .before .before .before .place-after .ensures (a .k) (p .4) in
+    let row = c .before .before .before .before .before .before .before .before .before .before .before .before .padded-row .last .1 .1 .1 .0 in
+    (to, held-more (a .frame) (a .window) (now (a .plane)) row _ (length row - (15 - a .window .r)) (a .k) (now (a .sums)) _ (p .1) (omega (arith, p .1, p .5, c .before .before .before .before .before .before .before .before .before .before .before .row .given)) (p .7) (p .8) (c .before .before .before .before .before .before .before .before .before .before .before .before .padded-row .ensures) (rw (c .before .before .before .before .before .before .before .before .before .table-width .ensures, to, p .4) at (c .before .before .before .before .add-row .ensures)))
 
 pub next-row-spec : {M : Type 1} → statement M
 next-row-spec =
@@ -77,4 +80,5 @@ next-row-spec =
     add-row-requires
     same-length
     same-length-2
+    same-length-3
     returns)

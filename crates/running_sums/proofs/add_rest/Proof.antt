@@ -1,27 +1,28 @@
--- `area_tables::add_row` meets its contract: what is stored so far, in a place apart from the row above. Assumes nothing.
+-- `running_sums::add_rest` meets its contract: what is stored so far, in a place apart from the row above. Assumes nothing.
 use Prim.Native.Nat.{ℕ, _+_, _-_, _%_, _^_, _≤_}
-use native.Mathlib.Nat.{le-antisymm}
+use native.Mathlib.Nat.{le-refl, le-antisymm, add-zero, mod-eq-of-lt}
 use native.Mathlib.Omega.{arith}
-use mathlib.Core.Path.{_≡_, refl, ap, _∙_}
+use mathlib.Core.Path.{_≡_, refl, sym, ap, _∙_}
 use lib.ListN.{length, getD, take, length-set}
 use denote.Ref.{now}
 use Rattle.integers.specs.Sum.{sum}
 use Rattle.lists.proofs.StoredAt.{stored, stored-none, stored-more}
-use Rattle.area_tables.proofs.Rows.{above-kept, running-more, running-added}
+use Rattle.running_sums.proofs.Blocks.{above-kept, running-more, running-added}
 use borrow.Author.Needs.{needs}
-use Rattle.area_tables.proofs.add_row.Statement.{statement}
-use Rattle.area_tables.proofs.add_row.Tie as tie
+use Rattle.running_sums.proofs.add_rest.Statement.{statement}
+use Rattle.running_sums.proofs.add_rest.Tie as tie
 
 abbrev Inv-loop : tie.InvT-loop
-Inv-loop sums₀ from to width row total₀ x₀ sums total x =
-    (x ≤ width) × (total ≡ sum (take x row) % 2 ^ 32) × (sums ≡ stored (λ i. (getD sums₀ (from + i) 0 + sum (take i row)) % 2 ^ 32) sums₀ to x) × (length sums ≡ length sums₀)
+Inv-loop sums₀ from to n total row running₀ x₀ sums running x =
+    (x ≤ n) × (running ≡ (total + sum (take x row)) % 2 ^ 32) × (sums ≡ stored (λ i. (getD sums₀ (from + i) 0 + (total + sum (take i row))) % 2 ^ 32) sums₀ to x) × (length sums ≡ length sums₀)
 
 abbrev μ-loop : tie.MeasureT-loop
-μ-loop sums₀ from to width row total₀ x₀ sums total x = width - x
+μ-loop sums₀ from to n total row running₀ x₀ sums running x = n - x
 
 loop-holds : tie.Need-loop-holds Inv-loop μ-loop
 unfolding sum
-loop-holds c = (omega arith, refl, stored-none _ _ _, refl)
+loop-holds c =
+    (omega arith, rw add-zero (sym (mod-eq-of-lt (omega (arith, c .before .before .fits)))), stored-none _ _ _, refl)
 
 add-wrapping-add-u32 : tie.Need-add-wrapping-add-u32 Inv-loop μ-loop
 add-wrapping-add-u32 c = search needs
@@ -66,11 +67,11 @@ loop-again c =
     let p = c .before .before .before .before .before .before .before .before .pre in
     let t = c .before .before .before .before .loop-test .taken in
     let r = now (a .row) in
-    let above = above-kept _ (now (a .sums)) (L .sums) (a .from) (a .to) (a .width) (L .x) (omega (arith, p .1)) (p .3) t (L .inv .2) in (
+    let above = above-kept _ (now (a .sums)) (L .sums) (a .from) (a .to) (a .n) (L .x) (L .x) (omega (arith, p .1)) (p .3) (le-refl _) t (L .inv .2) in (
       omega (arith, t),
-      c .wrapping-add-u322 .ensures ∙ running-more r (L .x) (L .total) (L .inv .1) (omega (arith, t, p .2)),
+      c .wrapping-add-u322 .ensures ∙ running-more r (a .total) (L .x) (L .running) (L .inv .1) (omega (arith, t, p .2)),
       stored-more _ (now (a .sums)) (L .sums) (a .to) (L .x) _ (omega (arith, t, p .1)) (L .inv .2)
-          (c .before .before .wrapping-add-u32 .ensures ∙ running-added r (L .x) (L .total) (L .inv .1) _ ∙ ap (λ (b : ℕ). (b + sum (take (L .x) r)) % 2 ^ 32) above),
+          (c .before .before .wrapping-add-u32 .ensures ∙ running-added r (a .total) (L .x) (L .running) (L .inv .1) _ ∙ ap (λ (b : ℕ). (b + (a .total + sum (take (L .x) r))) % 2 ^ 32) above),
       simp length-set (L .inv .3),
     )
 
@@ -83,8 +84,8 @@ returns c =
     let L = c .before .loop in
     rw (le-antisymm (L .inv .0) (c .loop-test .left)) at (L .inv .2)
 
-pub add-row-spec : {M : Type 1} → statement M
-add-row-spec =
+pub add-rest-spec : {M : Type 1} → statement M
+add-rest-spec =
     tie.close
     (tie.spec
     Inv-loop

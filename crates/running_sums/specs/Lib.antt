@@ -1,0 +1,2 @@
+-- Sums of four samples, definitions only.
+pub mod Fours
