@@ -33,6 +33,9 @@ except ImportError:
 
 SIZES = [(96, 72), (1024, 768)]
 
+# Boxes have one more: a frame whose running sums would fill no cache, were they all held.
+LARGE = (4096, 4096)
+
 # How many stills a background has.
 KEPT = 100
 
@@ -358,7 +361,7 @@ def tell(out, work, peer, run, given, wanted, seconds=LONG, samples=lambda y: y,
 
 def tell_stages(out):
     for work, stages in WORK:
-        for w, h in SIZES:
+        for w, h in SIZES + [LARGE] * work.startswith("box"):
             x = picture(w, h)
             wanted = chain([lambda x, s=s: document_01(s, x) for s in stages])(x)
             for peer, make in PEERS:

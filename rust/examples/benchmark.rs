@@ -17,6 +17,9 @@ type Size = (usize, usize);
 
 const SIZES: [Size; 2] = [(96, 72), (1024, 768)];
 
+/// Boxes have one more: a frame whose running sums would fill no cache, were they all held.
+const LARGE: Size = (4096, 4096);
+
 // Pictures. peers.py makes the same samples, in whole numbers like these.
 
 /// Makes the samples of a picture from its width and height.
@@ -238,7 +241,7 @@ impl Table {
             None => ("-".into(), "-".into()),
         };
         println!(
-            "| {work:<16} | {size:<8} | {library:>9.2} | {plain:>10} | {ratio:>6} | {:>10} | {:>10} |",
+            "| {work:<16} | {size:<9} | {library:>9.2} | {plain:>10} | {ratio:>6} | {:>10} | {:>10} |",
             self.peer(work, size, "opencv"),
             self.peer(work, size, "scipy")
         );
@@ -251,10 +254,11 @@ fn stages(table: &Table) {
     println!("Nanoseconds a sample, border nearest, grey: the best of several runs on one core, buffers warm and not cleared.");
     println!("`=`: the same samples on this picture; `~`: not all the same.");
     println!("Plain Rust does the same arithmetic throughout, OpenCV and SciPy in boxes, ranks and outlines; in stages of weights theirs is only similar.\n");
-    println!("| work             | size     |   library | plain Rust |  ratio |     OpenCV |      SciPy |");
-    println!("|------------------|----------|----------:|-----------:|-------:|-----------:|-----------:|");
+    println!("| work             | size      |   library | plain Rust |  ratio |     OpenCV |      SciPy |");
+    println!("|------------------|-----------|----------:|-----------:|-------:|-----------:|-----------:|");
     for (work, recipe) in recipes() {
-        for size in SIZES {
+        let large = work.starts_with("box").then_some(LARGE);
+        for size in SIZES.into_iter().chain(large) {
             stage_row(table, work, &recipe, size);
         }
     }
@@ -273,8 +277,12 @@ fn stage_row(table: &Table, work: &str, recipe: &[u8], size: Size) {
         let still = hejslopi::write_still(w, h, 1, &plane).unwrap();
         on_file(recipe, size, &still)
     };
-    // the plain reading sorts each window of a rank, which takes long
-    let short = work != "rank 31x31" || w * h < 100_000;
+    // the plain reading sorts each window of a rank and adds up each window of a box, which takes long
+    let short = match work {
+        "rank 31x31" => w * h < 100_000,
+        "box 15x15" | "box 31x31" => size != LARGE,
+        _ => true,
+    };
     let plain = short.then(|| {
         let mut result = Vec::new();
         let time = best(|| result = reference::chain(&stages, w, h, &plane));

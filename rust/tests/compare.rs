@@ -256,17 +256,36 @@ fn rank(rng: &mut Rng, border: u8, r: u8, s: u8) {
     }
 }
 
+/// A box stage, on a frame that may be smaller than its window or have more rows than it holds sums for.
+fn mean(rng: &mut Rng, border: u8, r: u8, s: u8) {
+    let (w, h) = (rng.size(1, 20), rng.size(1, 80));
+    let plane = inputs::samples(rng, w * h);
+    let value = if border == 0 { rng.byte() } else { 0 };
+    let recipe = [1, 4, border, value, r, s];
+    let need = reference::needs(&reference::read_recipe(&recipe).unwrap(), w, h, w * h);
+    calls::filter_plane(rng, &recipe, w, h, &plane, need).unwrap();
+}
+
 /// Every window under every border.
-#[test]
-fn ranks_are_filtered_alike() {
+fn windows(stage: fn(&mut Rng, u8, u8, u8)) {
     let mut rng = Rng::new(support::base_seed());
     for border in 0..4 {
         for r in 0..=15 {
             for s in 0..=15 {
-                rank(&mut rng, border, r, s);
+                stage(&mut rng, border, r, s);
             }
         }
     }
+}
+
+#[test]
+fn ranks_are_filtered_alike() {
+    windows(rank);
+}
+
+#[test]
+fn boxes_are_filtered_alike() {
+    windows(mean);
 }
 
 /// Every frame of up to 16 a side under every border: thirds at -15 and 15, and windows of 31 by 31. A side of 1 is left by up to 15 lengths.
@@ -293,11 +312,11 @@ fn short_axes_are_filtered_alike() {
     }
 }
 
-/// The samples of this frame have a sum above 2^32.
+/// The samples of this frame have a sum that passes 2^32 three times.
 #[test]
 fn a_bright_large_frame_is_filtered_alike() {
     let mut rng = Rng::new(support::base_seed());
-    let (w, h) = (8192, 2100);
+    let (w, h) = (8192, 8192);
     let mut plane = vec![255; w * h];
     for _ in 0..1000 {
         let at = rng.size(0, w * h - 1);

@@ -1,2 +1,3 @@
 pub mod Places
 pub mod Tables
+pub mod Before
