@@ -33,7 +33,7 @@ except ImportError:
 
 SIZES = [(96, 72), (1024, 768)]
 
-# Boxes have one more: a frame whose running sums would fill no cache, were they all held.
+# Boxes have one more: a frame whose running sums would fit no cache, were they all held.
 LARGE = (4096, 4096)
 
 # How many stills a background has.

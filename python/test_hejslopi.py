@@ -217,7 +217,7 @@ class Calls(unittest.TestCase):
     def test_memory(self):
         """The largest still takes at most twice what the call needs: both files, work bytes, row values and sums."""
         side = 8192
-        needed = 2 * side * side + 2 * side * side + 4 * side * (side + 30) + 4 * (side + 3) * (side + 3)
+        needed = 2 * side * side + 2 * side * side + 4 * side * (side + 30) + 4 * (side + 3) * 4
         code = ("import hejslopi\nstill = b'P5\\n8192 8192\\n255\\n' + bytes(8192 * 8192)\n"
                 "assert len(hejslopi.filter_file(still, bytes.fromhex('01 04 01 00 01 01'))[0]) == len(still)\n")
         limit = lambda: resource.setrlimit(resource.RLIMIT_AS, (2 * needed, 2 * needed))

@@ -88,18 +88,16 @@ def program_lines(room, size, radii):
 
 
 def sizes(tally, room):
-    """The sizes that are said to fit the program, and those that are not; and the largest radii for one of them."""
+    """The sizes that are said to fit the program, and those that are not; and up to how many columns every box fits."""
     text = section("Which front end")
     for size in re.findall(r"\d+ by \d+", found(r"every still: (.+) fit;", text, "sizes that fit")):
         tally.equal("%s fits" % size, program_lines(room, size, (0, 0))[0], "ok")
     for size in re.findall(r"\d+ by \d+", found(r"fit; (.+) do not", text, "sizes that do not fit")):
         tally.equal("%s does not fit" % size, program_lines(room, size, (0, 0)), ["no", "20"])
-    size = found(r"(\d+ by \d+) fits with all of them", text, "size that fits with all boxes")
-    tally.equal("%s with the largest box" % size, program_lines(room, size, (15, 15))[0], "ok")
-    size, radii = found(r"(\d+ by \d+) up to radii", text, "size with a largest box"), found(r"up to radii (\d+ and \d+)", text, "largest radii")
-    across, down = map(int, radii.split(" and "))
-    tally.equal("%s with a box of %s" % (size, radii), program_lines(room, size, (across, down))[0], "ok")
-    tally.equal("%s with a larger box" % size, program_lines(room, size, (across + 1, down + 1)), ["no", "20"])
+    columns = int(found(r"up to (\d+) columns fits with all of them", text, "columns that fit with all boxes"))
+    tally.equal("%d columns with the largest box" % columns, program_lines(room, "%d by 3" % columns, (15, 15))[0], "ok")
+    tally.equal("a column more with the largest box", program_lines(room, "%d by 3" % (columns + 1), (15, 15)), ["no", "20"])
+    tally.equal("a column more with a smaller box", program_lines(room, "%d by 3" % (columns + 1), (15, 14))[0], "ok")
 
 
 def from_c(tally, room):

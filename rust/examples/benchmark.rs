@@ -17,7 +17,7 @@ type Size = (usize, usize);
 
 const SIZES: [Size; 2] = [(96, 72), (1024, 768)];
 
-/// Boxes have one more: a frame whose running sums would fill no cache, were they all held.
+/// Boxes have one more: a frame whose running sums would fit no cache, were they all held.
 const LARGE: Size = (4096, 4096);
 
 // Pictures. peers.py makes the same samples, in whole numbers like these.

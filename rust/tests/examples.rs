@@ -373,7 +373,7 @@ fn needs_are_exact() {
     recipe.extend([4, 0, 9, 3, 4]);
     let still = hejslopi::write_still(20, 10, 1, &[100; 200]).unwrap();
     let needs = hejslopi::needs(&recipe, 20, 10).unwrap();
-    assert_eq!((needs.work, needs.rows, needs.sums), (400, 800, 27 * 19));
+    assert_eq!((needs.work, needs.rows, needs.sums), (400, 800, 27 * 10));
     let mut out = vec![0; hejslopi::file_need(20, 10, 1).unwrap()];
     let mut room = hejslopi::Room::new(needs);
     assert!(hejslopi::filter_file_into(&recipe, &still, room.lend(), &mut out).is_ok());

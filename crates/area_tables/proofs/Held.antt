@@ -13,23 +13,23 @@ use Rattle.lists.proofs.StoredAt.{stored, at-stored, before-stored, behind-stor
 use Rattle.stage_values.specs.declared.Window.{Window}
 use Rattle.frame.specs.declared.Frame.{Frame}
 use Rattle.frame.specs.Padded.{padded}
-use Rattle.table_sizes.specs.Circle.{tableWidth, heldRows, circleSize, placeOf}
+use Rattle.table_sizes.specs.Ring.{tableWidth, ringRows, ringSize, rowStart}
 use Rattle.table_sizes.proofs.Places.{place-inside, rows-apart}
 use Rattle.area_tables.specs.Table.{entry}
 use Rattle.area_tables.specs.HeldTable.{HeldTable}
 use Rattle.area_tables.proofs.Entries.{entry-none, entry-more}
 
 -- the table's first row lies at the front
-pub first-place : (w : ℕ) (x : Window) → placeOf w x 0 ≡ 0
-first-place w x = let none : 0 % heldRows x ≡ 0 = mod-eq-of-lt (omega arith) in rw none (omega arith)
+pub first-place : (w : ℕ) (x : Window) → rowStart w x 0 ≡ 0
+first-place w x = let none : 0 % ringRows x ≡ 0 = mod-eq-of-lt (omega arith) in rw none (omega arith)
 
--- a row's place ends inside the circle
-pub place-fits : (w : ℕ) (x : Window) (y : ℕ) {m : ℕ} → circleSize w x ≤ m → placeOf w x y + tableWidth w x ≤ m
-place-fits w x y h = omega (arith, h, place-inside (heldRows x) (tableWidth w x) (omega arith) y)
+-- a row's place ends inside the ring
+pub place-fits : (w : ℕ) (x : Window) (y : ℕ) {m : ℕ} → ringSize w x ≤ m → rowStart w x y + tableWidth w x ≤ m
+place-fits w x y h = omega (arith, h, place-inside (ringRows x) (tableWidth w x) (omega arith) y)
 
 -- the next row's place is apart from a row's
-pub next-apart : (w : ℕ) (x : Window) (y : ℕ) → (placeOf w x (y + 1) ≤ placeOf w x y) ⊎ (placeOf w x y + tableWidth w x ≤ placeOf w x (y + 1))
-next-apart w x y = ⊎-elim (λ h. inr h) (λ h. inl (omega (arith, h))) (rows-apart (heldRows x) (tableWidth w x) y (y + 1) (omega arith) (omega arith) (omega arith))
+pub next-apart : (w : ℕ) (x : Window) (y : ℕ) → (rowStart w x (y + 1) ≤ rowStart w x y) ⊎ (rowStart w x y + tableWidth w x ≤ rowStart w x (y + 1))
+next-apart w x y = ⊎-elim (λ h. inr h) (λ h. inl (omega (arith, h))) (rows-apart (ringRows x) (tableWidth w x) y (y + 1) (omega arith) (omega arith) (omega arith))
 
 module _ (f : Frame) (x : Window) (samples : List ℕ) where
   -- sums that were cleared are the table's first row
@@ -42,28 +42,28 @@ module _ (f : Frame) (x : Window) (samples : List ℕ) where
   }
 
   -- the table's next row is stored in its place, from the row above and a padded row
-  pub held-more : (row rest : List ℕ) (m k : ℕ) (d l : List ℕ) → x .r ≤ 15 → tableWidth (f .width) x ≤ m → circleSize (f .width) x ≤ length d → HeldTable f x samples k d
+  pub held-more : (row rest : List ℕ) (m k : ℕ) (d l : List ℕ) → x .r ≤ 15 → tableWidth (f .width) x ≤ m → ringSize (f .width) x ≤ length d → HeldTable f x samples k d
       → row ≡ tabulate (λ i. padded f samples i (15 - x .s + k)) (f .width + 30) ++ rest
-      → l ≡ stored (λ i. (getD d (placeOf (f .width) x k + i) 0 + sum (take i (take m (drop (15 - x .r) row)))) % 2 ^ 32) d (placeOf (f .width) x (k + 1)) (tableWidth (f .width) x)
+      → l ≡ stored (λ i. (getD d (rowStart (f .width) x k + i) 0 + sum (take i (take m (drop (15 - x .r) row)))) % 2 ^ 32) d (rowStart (f .width) x (k + 1)) (tableWidth (f .width) x)
       → HeldTable f x samples (k + 1) l
   held-more row rest m k d l hr hm size held er el = record { held = λ i y a b c. ⊎-elim (made i y a) (same i y a c) (eq-or-lt-of-le b) }
     where
       to : ℕ
-      to = placeOf (f .width) x (k + 1)
+      to = rowStart (f .width) x (k + 1)
 
       inside : to ≤ length d
       inside = omega (arith, place-fits (f .width) x (k + 1) size)
 
-      made : (i y : ℕ) → i < tableWidth (f .width) x → y ≡ k + 1 → getD l (placeOf (f .width) x y + i) 0 ≡ entry f x samples i y
+      made : (i y : ℕ) → i < tableWidth (f .width) x → y ≡ k + 1 → getD l (rowStart (f .width) x y + i) 0 ≡ entry f x samples i y
       made i y a e =
           rw e
           (at-stored _ d l to (tableWidth (f .width) x) i inside a el
           ∙ entry-more f x samples row rest _ m i k hr (omega (arith, a, hm)) (omega (arith, a)) (held .held i k a (le-refl k) (omega arith)) er)
 
-      same : (i y : ℕ) → i < tableWidth (f .width) x → k + 1 < y + heldRows x → y < k + 1 → getD l (placeOf (f .width) x y + i) 0 ≡ entry f x samples i y
+      same : (i y : ℕ) → i < tableWidth (f .width) x → k + 1 < y + ringRows x → y < k + 1 → getD l (rowStart (f .width) x y + i) 0 ≡ entry f x samples i y
       same i y a c b =
           ⊎-elim
-          (λ above. before-stored _ d l to (tableWidth (f .width) x) (placeOf (f .width) x y + i) inside (omega (arith, above, a)) el)
-          (λ below. behind-stored _ d l to (tableWidth (f .width) x) (placeOf (f .width) x y + i) inside (omega (arith, below)) el)
-          (rows-apart (heldRows x) (tableWidth (f .width) x) y (k + 1) (omega arith) b c)
+          (λ above. before-stored _ d l to (tableWidth (f .width) x) (rowStart (f .width) x y + i) inside (omega (arith, above, a)) el)
+          (λ below. behind-stored _ d l to (tableWidth (f .width) x) (rowStart (f .width) x y + i) inside (omega (arith, below)) el)
+          (rows-apart (ringRows x) (tableWidth (f .width) x) y (k + 1) (omega arith) b c)
           ∙ held .held i y a (omega (arith, b)) (omega (arith, c))

@@ -5,9 +5,9 @@ use mathlib.Core.List.{List}
 use lib.ListN.{getD}
 use Rattle.stage_values.specs.declared.Window.{Window}
 use Rattle.frame.specs.declared.Frame.{Frame}
-use Rattle.table_sizes.specs.Circle.{tableWidth, heldRows, placeOf}
+use Rattle.table_sizes.specs.Ring.{tableWidth, ringRows, rowStart}
 use Rattle.area_tables.specs.Table.{entry}
 
 -- once row k was made: it and the 2s+1 rows above it, each in its place
 pub record HeldTable (f : Frame) (x : Window) (samples : List ℕ) (k : ℕ) (sums : List ℕ) : Type 0 where
-  pub held : (i y : ℕ) → i < tableWidth (f .width) x → y ≤ k → k < y + heldRows x → getD sums (placeOf (f .width) x y + i) 0 ≡ entry f x samples i y
+  pub held : (i y : ℕ) → i < tableWidth (f .width) x → y ≤ k → k < y + ringRows x → getD sums (rowStart (f .width) x y + i) 0 ≡ entry f x samples i y

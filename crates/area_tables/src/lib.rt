@@ -1,4 +1,5 @@
-// Summed-area tables: the running sums of a frame that is extended by a window's radii, row by row. As many rows are held as a window has edges and rows between.
+// Summed-area tables: the running sums of a frame that is extended by a window's radii, row by row. 2s+2 of them are held: a window's
+// upper edge, its lower edge and all between.
 use frame::Frame;
 use stage_values::Window;
 ghost use mathlib.Core.Path.{_≡_};
@@ -7,7 +8,7 @@ ghost use Prim.Native.Nat.{_+_, _*_, _≤_};
 ghost use lib.ListN.{length, drop};
 ghost use Rattle.lists.specs.Tabulate.{tabulate};
 ghost use Rattle.frame.specs.Framed.{Framed};
-ghost use Rattle.table_sizes.specs.Circle.{circleSize, placeOf};
+ghost use Rattle.table_sizes.specs.Ring.{ringSize, rowStart};
 ghost use Rattle.area_tables.specs.HeldTable.{HeldTable};
 
 // The first n entries set to 0.
@@ -34,12 +35,12 @@ pub fn next_row(
     fours: &mut [u16],
     sums: &mut [u32],
 ) -> usize
-    requires { ⌜ Framed frame (now plane) × (window .r ≤ 15) × (window .s ≤ 15) × (k ≤ 8222) × (from ≡ placeOf (frame .width) window k) × (frame .width + 34 ≤ length (now row)) × (frame .width + 33 ≤ length (now fours)) × (circleSize (frame .width) window ≤ length (now sums)) × HeldTable frame window (now plane) k (now sums) ⌝ }
-    ensures { λ to. ⌜ (to ≡ placeOf (frame .width) window (k + 1)) × HeldTable frame window (now (plane .entry)) (k + 1) (now (sums .exit)) ⌝ }
+    requires { ⌜ Framed frame (now plane) × (window .r ≤ 15) × (window .s ≤ 15) × (k ≤ 8222) × (from ≡ rowStart (frame .width) window k) × (frame .width + 34 ≤ length (now row)) × (frame .width + 33 ≤ length (now fours)) × (ringSize (frame .width) window ≤ length (now sums)) × HeldTable frame window (now plane) k (now sums) ⌝ }
+    ensures { λ to. ⌜ (to ≡ rowStart (frame .width) window (k + 1)) × HeldTable frame window (now (plane .entry)) (k + 1) (now (sums .exit)) ⌝ }
 {
     let w = frame.width;
     let first = 15 - window.r;
-    let to = table_sizes::place_after(w, window, from);
+    let to = table_sizes::next_start(w, window, from);
     frame::padded_row(frame, plane, 15 - window.s + k, row);
     let width = table_sizes::table_width(w, window);
     running_sums::add_row(sums, from, to, width, &row[first..], fours);
@@ -55,8 +56,8 @@ pub fn first_rows(
     fours: &mut [u16],
     sums: &mut [u32],
 ) -> usize
-    requires { ⌜ Framed frame (now plane) × (window .r ≤ 15) × (window .s ≤ 15) × (frame .width + 34 ≤ length (now row)) × (frame .width + 33 ≤ length (now fours)) × (circleSize (frame .width) window ≤ length (now sums)) ⌝ }
-    ensures { λ last. ⌜ (last ≡ placeOf (frame .width) window (2 * window .s)) × HeldTable frame window (now (plane .entry)) (2 * window .s) (now (sums .exit)) ⌝ }
+    requires { ⌜ Framed frame (now plane) × (window .r ≤ 15) × (window .s ≤ 15) × (frame .width + 34 ≤ length (now row)) × (frame .width + 33 ≤ length (now fours)) × (ringSize (frame .width) window ≤ length (now sums)) ⌝ }
+    ensures { λ last. ⌜ (last ≡ rowStart (frame .width) window (2 * window .s)) × HeldTable frame window (now (plane .entry)) (2 * window .s) (now (sums .exit)) ⌝ }
 {
     let w = frame.width;
     let s = window.s;

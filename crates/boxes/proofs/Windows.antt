@@ -1,15 +1,13 @@
 -- Window sums from the corners of a table, of which a few rows are held. Assumes nothing.
 use Prim.Native.Nat.{ℕ, _+_, _-_, _*_, _/_, _^_, _≤_, _<_}
-use native.Mathlib.Nat.{le-refl, add-assoc}
+use native.Mathlib.Nat.{add-assoc}
 use native.Mathlib.Omega.{arith}
 use mathlib.Core.Path.{_≡_, ap, _∙_}
 use mathlib.Core.List.{List}
-use lib.ListN.{getD, drop}
-use lib.Seq.{getD-drop}
 use Rattle.integers.specs.Sum.{sum}
 use Rattle.lists.specs.Tabulate.{tabulate, raster}
 use Rattle.lists.proofs.Tabulate.{tabulate-ext}
-use Rattle.lists.proofs.Raster.{getD-raster, raster-ext}
+use Rattle.lists.proofs.Raster.{raster-ext}
 use Rattle.model.specs.Window.{area, window}
 use Rattle.model.specs.Box.{boxResult}
 use Rattle.model_laws.proofs.Window.{length-window, pairs-window, sum-le, area-le}
@@ -19,13 +17,14 @@ use Rattle.model.specs.Sound.{Bytes}
 use Rattle.stage_values.specs.declared.Window.{Window}
 use Rattle.stage_values.specs.Stands.{borderIs}
 use Rattle.frame.specs.declared.Frame.{Frame}
-use Rattle.frame.specs.Framed.{neighbours, worked}
+use Rattle.frame.specs.Framed.{neighbours}
 use Rattle.frame.proofs.Supplied.{window-padded}
-use Rattle.table_sizes.specs.Circle.{tableWidth, placeOf}
-use Rattle.area_tables.specs.Table.{extended, entry, fullTable}
+use Rattle.table_sizes.specs.Ring.{tableWidth}
+use Rattle.area_tables.specs.Table.{extended, entry}
 use Rattle.area_tables.specs.HeldTable.{HeldTable}
 use Rattle.mean_rows.specs.Corners.{corners}
 use Rattle.boxes.specs.WindowCorners.{cornersAt}
+use Rattle.boxes.proofs.FullTable.{Row, upper-held, lower-held}
 use Rattle.area_tables.proofs.Sums.{window-total}
 use Rattle.mean_rows.proofs.Corners.{difference-is-sum}
 
@@ -44,41 +43,6 @@ module _ (f : Frame) (w : Window) (samples : List ℕ) (hr : w .r ≤ 15) (hs : 
   window-corners : (u v : ℕ) → sum (window (w .r) (w .s) (neighbours f samples u v)) + all (u + (2 * w .r + 1)) v + all u (v + (2 * w .s + 1)) ≡ all (u + (2 * w .r + 1)) (v + (2 * w .s + 1)) + all u v
   window-corners u v = omega (arith, ap sum (window-extended u v), window-total (extended f w samples) u v (2 * w .r + 1) (2 * w .s + 1))
 
-  -- a list whose front is row y of the table
-  abbrev Row : List ℕ → ℕ → Type 0
-  Row l y = (i : ℕ) → i < tableWidth (f .width) w → getD l i 0 ≡ entry f w samples i y
-
-  full-row : (y : ℕ) → y < f .height + 2 * w .s + 1 → Row (drop (y * tableWidth (f .width) w) (fullTable f w samples)) y
-  unfolding fullTable
-  full-row y h i k = getD-drop (y * tableWidth (f .width) w) _ i 0 ∙ getD-raster (entry f w samples) (tableWidth (f .width) w) (f .height + 2 * w .s + 1) i y 0 k h
-
-  module _ (sums : List ℕ) (v : ℕ) (held : HeldTable f w samples (v + (2 * w .s + 1)) sums) where
-    upper-held : Row (drop (placeOf (f .width) w v) sums) v
-    upper-held i h = getD-drop (placeOf (f .width) w v) sums i 0 ∙ held .held i v h (omega arith) (omega arith)
-
-    lower-held : Row (drop (placeOf (f .width) w (v + (2 * w .s + 1))) sums) (v + (2 * w .s + 1))
-    lower-held i h = getD-drop (placeOf (f .width) w (v + (2 * w .s + 1))) sums i 0 ∙ held .held i (v + (2 * w .s + 1)) h (le-refl _) (omega arith)
-
-    -- THE CIRCLE IS THE FULL TABLE: every window has the same four corners in both, of frames of every size, however often their sums have passed 2^32
-    pub as-full-table : (u : ℕ) → u < f .width → v < f .height
-        → cornersAt sums (f .width) w u v ≡ corners (drop (v * tableWidth (f .width) w) (fullTable f w samples)) (drop ((v + (2 * w .s + 1)) * tableWidth (f .width) w) (fullTable f w samples)) (2 * w .r + 1) u
-    unfolding cornersAt corners
-    as-full-table u hu hv =
-        let far : 2 * w .r + 1 + u < tableWidth (f .width) w = omega arith in
-        let near : u < tableWidth (f .width) w = omega arith in
-        let high : v < f .height + 2 * w .s + 1 = omega arith in
-        let low : v + (2 * w .s + 1) < f .height + 2 * w .s + 1 = omega arith in
-        rw (
-          lower-held (2 * w .r + 1 + u) far,
-          upper-held u near,
-          upper-held (2 * w .r + 1 + u) far,
-          lower-held u near,
-          full-row (v + (2 * w .s + 1)) low (2 * w .r + 1 + u) far,
-          full-row v high u near,
-          full-row v high (2 * w .r + 1 + u) far,
-          full-row (v + (2 * w .s + 1)) low u near,
-        )
-
   -- of bytes
   module _ (hb : f .value ≤ 255) (hf : Bytes samples) where
     plane-le : (u v : ℕ) → planeOf (f .width) samples u v ≤ 255
@@ -96,7 +60,7 @@ module _ (f : Frame) (w : Window) (samples : List ℕ) (hr : w .r ≤ 15) (hs : 
     window-sum-small u v = omega (arith, window-sum-le u v, area-le (w .r) (w .s) 15 15 hr hs)
 
     -- the difference of a window's four corners is its sum, for two rows of the table wherever they lie
-    edges-sum : (upper lower : List ℕ) (u v : ℕ) → u < f .width → Row upper v → Row lower (v + (2 * w .s + 1)) → corners upper lower (2 * w .r + 1) u ≡ sum (window (w .r) (w .s) (neighbours f samples u v))
+    pub edges-sum : (upper lower : List ℕ) (u v : ℕ) → u < f .width → Row f w samples upper v → Row f w samples lower (v + (2 * w .s + 1)) → corners upper lower (2 * w .r + 1) u ≡ sum (window (w .r) (w .s) (neighbours f samples u v))
     unfolding corners entry
     edges-sum upper lower u v hu above below =
         let right : 2 * w .r + 1 + u ≡ u + (2 * w .r + 1) = omega arith in
@@ -110,7 +74,7 @@ module _ (f : Frame) (w : Window) (samples : List ℕ) (hr : w .r ≤ 15) (hs : 
       -- so is that of the rows that are held, once the lower edge of row v's windows is among them
       pub held-sum : (u : ℕ) → u < f .width → cornersAt sums (f .width) w u v ≡ sum (window (w .r) (w .s) (neighbours f samples u v))
       unfolding cornersAt
-      held-sum u hu = edges-sum _ _ u v hu (upper-held sums v held) (lower-held sums v held)
+      held-sum u hu = edges-sum _ _ u v hu (upper-held f w samples sums v held) (lower-held f w samples sums v held)
 
       pub held-le : (u : ℕ) → u < f .width → cornersAt sums (f .width) w u v ≤ 255 * area (w .r) (w .s)
       held-le u hu = rw (held-sum u hu) (window-sum-le u v)

@@ -9,8 +9,9 @@ ghost use Rattle.lists.specs.Tabulate.{tabulate};
 ghost use Rattle.model.specs.Window as Model;
 ghost use Rattle.model.specs.Box.{boxResult};
 ghost use Rattle.frame.specs.Framed.{Framed, worked};
-ghost use Rattle.table_sizes.specs.Circle.{circleSize, placeOf};
+ghost use Rattle.table_sizes.specs.Ring.{ringSize, rowStart};
 ghost use Rattle.area_tables.specs.HeldTable.{HeldTable};
+ghost use Rattle.mean_rows.specs.Mean.{meanOf, reciprocalOf};
 ghost use Rattle.kept_planes.specs.HeldRow.{kept};
 ghost use Rattle.boxes.specs.WindowCorners.{cornersAt};
 
@@ -23,13 +24,13 @@ fn area(window: Window) -> u32
 }
 
 // A row of means, from the rows of sums that are held: the lower edge of its windows lies at `lower`, and their upper edge, the oldest row, after it.
-fn mean_row(sums: &[u32], w: usize, window: Window, lower: usize, by: u32, dst: &mut [u8])
-    requires { ⌜ (w ≤ 8192) × (window .r ≤ 15) × (window .s ≤ 15) × (circleSize w window ≤ length (now sums)) × (w ≤ length (now dst)) × (by ≡ (2 ^ 32 + (2 * Model.area (window .r) (window .s) - 1)) / (2 * Model.area (window .r) (window .s))) × ((v : ℕ) × (lower ≡ placeOf w window (v + (2 * window .s + 1))) × ((u : ℕ) → u < w → cornersAt (now sums) w window u v ≤ 255 * Model.area (window .r) (window .s))) ⌝ }
-    ensures { λ _. ⌜ ((v : ℕ) → lower ≡ placeOf w window (v + (2 * window .s + 1)) → now (dst .exit) ≡ tabulate (λ u. (2 * cornersAt (now (sums .entry)) w window u v + Model.area (window .r) (window .s)) / (2 * Model.area (window .r) (window .s))) w ++ drop w (now (dst .entry))) ⌝ }
+fn row_of_means(sums: &[u32], w: usize, window: Window, lower: usize, by: u32, dst: &mut [u8])
+    requires { ⌜ (w ≤ 8192) × (window .r ≤ 15) × (window .s ≤ 15) × (ringSize w window ≤ length (now sums)) × (w ≤ length (now dst)) × (by ≡ reciprocalOf (Model.area (window .r) (window .s))) × ((v : ℕ) × (lower ≡ rowStart w window (v + (2 * window .s + 1))) × ((u : ℕ) → u < w → cornersAt (now sums) w window u v ≤ 255 * Model.area (window .r) (window .s))) ⌝ }
+    ensures { λ _. ⌜ ((v : ℕ) → lower ≡ rowStart w window (v + (2 * window .s + 1)) → now (dst .exit) ≡ tabulate (λ u. meanOf (cornersAt (now (sums .entry)) w window u v) (Model.area (window .r) (window .s))) w ++ drop w (now (dst .entry))) ⌝ }
 {
     let n = area(window);
     let across = 2 * window.r + 1;
-    let upper = table_sizes::place_after(w, window, lower);
+    let upper = table_sizes::next_start(w, window, lower);
     mean_rows::mean_row(&sums[upper..], &sums[lower..], across, w, n, by, dst);
 }
 
@@ -44,7 +45,7 @@ fn write_rows(
     fours: &mut [u16],
     sums: &mut [u32],
 )
-    requires { ⌜ Framed frame (kept frame (now work)) × (window .r ≤ 15) × (window .s ≤ 15) × (frame .width + 34 ≤ length (now row)) × (frame .width + 33 ≤ length (now fours)) × (circleSize (frame .width) window ≤ length (now sums)) × (last ≡ placeOf (frame .width) window (2 * window .s)) × HeldTable frame window (kept frame (now work)) (2 * window .s) (now sums) ⌝ }
+    requires { ⌜ Framed frame (kept frame (now work)) × (window .r ≤ 15) × (window .s ≤ 15) × (frame .width + 34 ≤ length (now row)) × (frame .width + 33 ≤ length (now fours)) × (ringSize (frame .width) window ≤ length (now sums)) × (last ≡ rowStart (frame .width) window (2 * window .s)) × HeldTable frame window (kept frame (now work)) (2 * window .s) (now sums) ⌝ }
     ensures { λ _. ⌜ take (frame .height * frame .width) (now (work .exit)) ≡ worked frame (boxResult (window .r) (window .s)) (kept frame (now (work .entry))) ⌝ }
 {
     let w = frame.width;
@@ -58,20 +59,21 @@ fn write_rows(
     while v < h {
         let behind = &work[n..n + n];
         lower = area_tables::next_row(frame, window, behind, 2 * s + v, lower, row, fours, sums);
-        mean_row(sums, w, window, lower, by, &mut work[at..]);
+        row_of_means(sums, w, window, lower, by, &mut work[at..]);
         at += w;
         v += 1;
     }
 }
 
-// A box stage on the plane at the front of `work`. The plane behind it holds the samples before.
+// A box stage on the plane at the front of `work`. The samples before are copied behind it first.
 pub fn box_stage(frame: Frame, window: Window, work: &mut [u8], sums: &mut [u32])
-    requires { ⌜ Framed frame (take (frame .height * frame .width) (now work)) × (2 * (frame .height * frame .width) ≤ length (now work)) × (window .r ≤ 15) × (window .s ≤ 15) × (circleSize (frame .width) window ≤ length (now sums)) ⌝ }
+    requires { ⌜ Framed frame (take (frame .height * frame .width) (now work)) × (2 * (frame .height * frame .width) ≤ length (now work)) × (window .r ≤ 15) × (window .s ≤ 15) × (ringSize (frame .width) window ≤ length (now sums)) ⌝ }
     ensures { λ _. ⌜ take (frame .height * frame .width) (now (work .exit)) ≡ worked frame (boxResult (window .r) (window .s)) (take (frame .height * frame .width) (now (work .entry))) ⌝ }
 {
     let w = frame.width;
     let h = frame.height;
     let n = h * w;
+    // 15 + 8,192 + 15 samples, and what sums of four read behind a row
     let mut row = [0u8; 8232];
     let mut fours = [0u16; 8232];
     kept_planes::keep(work, n);

@@ -25,7 +25,7 @@ use Rattle.recipe_stages.specs.StageBytes.{workTests, workOf, stageTests, stage
 use Rattle.recipe_stages.proofs.ByKind.{radii-kind, head-known, stage-parts}
 use Rattle.recipe.specs.Recipe.{stagesTests, stagesOf, recipeTests, recipeStages, recipeOf}
 use Rattle.recipe.proofs.Accepted.{recipe-read}
-use Rattle.table_sizes.specs.Needs.{heldSums, sumNeed}
+use Rattle.table_sizes.specs.Needs.{workSums, sumNeed}
 use Rattle.room.specs.Room.{roomTests}
 use Rattle.filter_answers.specs.Limits.{archive}
 use Rattle.filter_answers.specs.FileAnswer.{fileSize, pictureAnswer}
@@ -37,16 +37,16 @@ use Rattle.program_filter.specs.Program.{programLent, programAnswer}
 
 module _ (W : ℕ) where
   -- of a stage after its header bytes
-  held-most : (kind : ℕ) (b : List ℕ) → 1 ≤ kind → kind ≤ 6 → verdict (workTests kind b) ≡ Passed → heldSums W (workOf kind b) ≤ (W + 31) * 32
-  unfolding heldSums workOf weightedWork
-  held-most zero b l h e = absurd (omega (arith, l))
-  held-most (suc zero) b l h e = omega arith
-  held-most (suc (suc zero)) b l h e = omega arith
-  held-most (suc (suc (suc zero))) b l h e = omega arith
-  held-most (suc (suc (suc (suc zero)))) b l h e = let r = radii-kind b 4 (omega arith) (omega arith) e in mul-le-mul {n₂ = W + 31} {m₂ = 32} (omega (arith, r .0)) (omega (arith, r .1))
-  held-most (suc (suc (suc (suc (suc zero))))) b l h e = omega arith
-  held-most (suc (suc (suc (suc (suc (suc zero)))))) b l h e = omega arith
-  held-most (suc (suc (suc (suc (suc (suc (suc k))))))) b l h e = absurd (omega (arith, h))
+  work-most : (kind : ℕ) (b : List ℕ) → 1 ≤ kind → kind ≤ 6 → verdict (workTests kind b) ≡ Passed → workSums W (workOf kind b) ≤ (W + 31) * 32
+  unfolding workSums workOf weightedWork
+  work-most zero b l h e = absurd (omega (arith, l))
+  work-most (suc zero) b l h e = omega arith
+  work-most (suc (suc zero)) b l h e = omega arith
+  work-most (suc (suc (suc zero))) b l h e = omega arith
+  work-most (suc (suc (suc (suc zero)))) b l h e = let r = radii-kind b 4 (omega arith) (omega arith) e in mul-le-mul {n₂ = W + 31} {m₂ = 32} (omega (arith, r .0)) (omega (arith, r .1))
+  work-most (suc (suc (suc (suc (suc zero))))) b l h e = omega arith
+  work-most (suc (suc (suc (suc (suc (suc zero)))))) b l h e = omega arith
+  work-most (suc (suc (suc (suc (suc (suc (suc k))))))) b l h e = absurd (omega (arith, h))
 
   stages-most : (k : ℕ) (b : List ℕ) → AllPass (stagesTests k b) → sumNeed W (stagesOf k b) ≤ (W + 31) * 32
   unfolding stagesTests stagesOf sumNeed stageOf stage
@@ -55,7 +55,7 @@ module _ (W : ℕ) where
       let q = all-append (stageTests b) (stagesTests k (drop (stageLength b) b)) p in
       let parts = stage-parts b (passed-all (stageTests b) (q .0)) in
       let kind = head-known b (parts .0) in
-      omega (arith, held-most (at b 0) (drop 3 b) (kind .0) (kind .1) (parts .1), stages-most k (drop (stageLength b) b) (q .1))
+      omega (arith, work-most (at b 0) (drop 3 b) (kind .0) (kind .1) (parts .1), stages-most k (drop (stageLength b) b) (q .1))
 
   pub sums-most : (b : List ℕ) → verdict (recipeTests b) ≡ Passed → sumNeed W (recipeStages b) ≤ (W + 31) * 32
   unfolding recipeTests recipeStages

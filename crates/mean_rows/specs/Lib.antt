@@ -1,2 +1,3 @@
 -- Windows in rows of a summed-area table, definitions only.
 pub mod Corners
+pub mod Mean

@@ -4,6 +4,7 @@ ghost use mathlib.Core.List.{_++_};
 ghost use Prim.Native.Nat.{ℕ, _+_, _-_, _*_, _/_, _^_, _≤_, _<_};
 ghost use lib.ListN.{length, drop};
 ghost use Rattle.lists.specs.Tabulate.{tabulate};
+ghost use Rattle.mean_rows.specs.Mean.{meanOf, reciprocalOf};
 ghost use Rattle.mean_rows.specs.Corners.{corners};
 
 // The sum of a window from its four corners. Entries are modulo 2^32, and so is this: a window's sum is smaller.
@@ -19,7 +20,7 @@ fn window_sum(upper: &[u32], lower: &[u32], across: usize, u: usize) -> u32
 // 2^32 / (2 area), rounded up.
 pub fn reciprocal(area: u32) -> u32
     requires { ⌜ (1 ≤ area) × (area ≤ 961) ⌝ }
-    ensures { λ r. ⌜ r ≡ (2 ^ 32 + (2 * area - 1)) / (2 * area) ⌝ }
+    ensures { λ r. ⌜ r ≡ reciprocalOf area ⌝ }
 {
     let twice = 2 * area as u64;
     ((4294967296 + (twice - 1)) / twice) as u32
@@ -27,8 +28,8 @@ pub fn reciprocal(area: u32) -> u32
 
 // (2 sum + area) / (2 area) by the reciprocal: no division for each sample, and the one product is of two numbers of 32 bits, as vectors have it.
 fn mean(sum: u32, area: u32, by: u32) -> u8
-    requires { ⌜ (1 ≤ area) × (area ≤ 961) × (sum ≤ 255 * area) × (by ≡ (2 ^ 32 + (2 * area - 1)) / (2 * area)) ⌝ }
-    ensures { λ r. ⌜ r ≡ (2 * sum + area) / (2 * area) ⌝ }
+    requires { ⌜ (1 ≤ area) × (area ≤ 961) × (sum ≤ 255 * area) × (by ≡ reciprocalOf area) ⌝ }
+    ensures { λ r. ⌜ r ≡ meanOf sum area ⌝ }
 {
     (((2 * sum + area) as u64 * by as u64) >> 32) as u8
 }
@@ -43,8 +44,8 @@ pub fn mean_row(
     by: u32,
     dst: &mut [u8],
 )
-    requires { ⌜ (w ≤ length (now dst)) × (across + w ≤ length (now upper)) × (across + w ≤ length (now lower)) × (1 ≤ area) × (area ≤ 961) × (by ≡ (2 ^ 32 + (2 * area - 1)) / (2 * area)) × ((u : ℕ) → u < w → corners (now upper) (now lower) across u ≤ 255 * area) ⌝ }
-    ensures { λ _. ⌜ now (dst .exit) ≡ tabulate (λ u. (2 * corners (now (upper .entry)) (now (lower .entry)) across u + area) / (2 * area)) w ++ drop w (now (dst .entry)) ⌝ }
+    requires { ⌜ (w ≤ length (now dst)) × (across + w ≤ length (now upper)) × (across + w ≤ length (now lower)) × (1 ≤ area) × (area ≤ 961) × (by ≡ reciprocalOf area) × ((u : ℕ) → u < w → corners (now upper) (now lower) across u ≤ 255 * area) ⌝ }
+    ensures { λ _. ⌜ now (dst .exit) ≡ tabulate (λ u. meanOf (corners (now (upper .entry)) (now (lower .entry)) across u) area) w ++ drop w (now (dst .entry)) ⌝ }
 {
     let mut u = 0;
     while u < w {

@@ -21,8 +21,8 @@ use Rattle.stage_values.specs.declared.Stage.{Stage}
 use Rattle.stage_values.specs.Stands.{Does, Stands}
 use Rattle.frame.specs.declared.Frame.{Frame}
 use Rattle.frame.specs.Framed.{Framed, worked}
-use Rattle.table_sizes.specs.Circle.{circleSize}
-use Rattle.table_sizes.specs.Needs.{heldSums}
+use Rattle.table_sizes.specs.Ring.{ringSize}
+use Rattle.table_sizes.specs.Needs.{workSums}
 
 -- a plane that was put in place of the front
 pub front-put : (g : ℕ → ℕ → ℕ) (w h : ℕ) (plane rest : List ℕ) → plane ≡ raster g w h → take (h * w) (plane ++ rest) ≡ raster g w h
@@ -58,8 +58,8 @@ module _ (w h : ℕ) (s : Stage) where
       box-plane = rw (box-does .0, k .border, k .value)
 
       -- its rows of sums fit
-      pub box-room : {n : ℕ} → heldSums w (t .work) ≤ n → circleSize w x ≤ n
-      unfolding heldSums
+      pub box-room : {n : ℕ} → workSums w (t .work) ≤ n → ringSize w x ≤ n
+      unfolding workSums
       box-room l = rw mul-comm (rw (box-does .0) at l)
 
     module _ {x : Window} {p : ℕ} (e : s .work ≡ Ranked x p) where

@@ -9,11 +9,11 @@ ghost use Rattle.lists.specs.Tabulate.{raster};
 ghost use Rattle.model.specs.Stage as Model;
 ghost use Rattle.model.specs.Plane.{planeOf};
 ghost use Rattle.stage_values.specs.Stands.{Stands};
-ghost use Rattle.table_sizes.specs.Needs.{heldSums};
+ghost use Rattle.table_sizes.specs.Needs.{workSums};
 
 // One stage, on the plane at the front of `work`.
 pub fn run_stage(s: Stage, w: usize, h: usize, work: &mut [u8], rows: &mut [i32], sums: &mut [u32])
-    requires { ⌜ (1 ≤ w) × (w ≤ 8192) × (1 ≤ h) × (h ≤ 8192) × (2 * (h * w) ≤ length (now work)) × ((h + 30) * w ≤ length (now rows)) × ((t : Model.Stage) × Stands s t × (heldSums w (t .work) ≤ length (now sums))) ⌝ }
+    requires { ⌜ (1 ≤ w) × (w ≤ 8192) × (1 ≤ h) × (h ≤ 8192) × (2 * (h * w) ≤ length (now work)) × ((h + 30) * w ≤ length (now rows)) × ((t : Model.Stage) × Stands s t × (workSums w (t .work) ≤ length (now sums))) ⌝ }
     ensures { λ _. ⌜ ((t : Model.Stage) → Stands s t → take (h * w) (now (work .exit)) ≡ raster (Model.stagePlane w h t (planeOf w (take (h * w) (now (work .entry))))) w h) ⌝ }
 {
     let n = h * w;

@@ -30,7 +30,7 @@ fn sum_need(bytes: &[u8], w: usize) -> usize
         let s = recipe_stages::read_stage(part);
         at += recipe_stages::stage_length(part);
         k += 1;
-        need = integers::larger(need, table_sizes::held_sums(s, w));
+        need = integers::larger(need, table_sizes::work_sums(s, w));
     }
     need
 }

@@ -12,8 +12,8 @@ use Rattle.lists.specs.Tabulate.{tabulate}
 use Rattle.lists.proofs.Part.{drop-past}
 use Rattle.lists.proofs.Tabulate.{length-tabulate, tabulate-add, tabulate-ext}
 use Rattle.lists.proofs.StoredAt.{stored, stored-none, stored-more, before-stored, behind-stored}
-use Rattle.running_sums.specs.declared.Four.{Four}
-use Rattle.running_sums.specs.Fours.{fourSum, part}
+use Rattle.running_sums.specs.declared.Lanes.{Lanes}
+use Rattle.running_sums.specs.Fours.{fourSum, lane}
 use Rattle.running_sums.proofs.Sums.{sum-take-suc, sum-take-more, sum-take-add, sum-take-four}
 
 -- what is stored first, and then behind it, is stored at once
@@ -42,30 +42,30 @@ module _ (row : List ℕ) (start x t : ℕ) (e : t ≡ (start + sum (take x row)
 -- ---- four by four
 
 -- the running sums at the first four places
-pub first-parts : (row : List ℕ) (t : Four) → 3 ≤ length row → ((i : ℕ) → getD row i 0 < 256) → t .a ≡ 0 → t .b ≡ getD row 0 0 → t .c ≡ t .b + getD row 1 0 → t .d ≡ t .c + getD row 2 0
-    → (i : ℕ) → i < 4 → part t i ≡ sum (take i row) % 2 ^ 32
-unfolding part sum
-first-parts row t l b ea eb ec ed zero h = ea
-first-parts row t l b ea eb ec ed (suc zero) h =
+pub lanes-first : (row : List ℕ) (t : Lanes) → 3 ≤ length row → ((i : ℕ) → getD row i 0 < 256) → t .a ≡ 0 → t .b ≡ getD row 0 0 → t .c ≡ t .b + getD row 1 0 → t .d ≡ t .c + getD row 2 0
+    → (i : ℕ) → i < 4 → lane t i ≡ sum (take i row) % 2 ^ 32
+unfolding lane sum
+lanes-first row t l b ea eb ec ed zero h = ea
+lanes-first row t l b ea eb ec ed (suc zero) h =
     let one : t .b ≡ sum (take (suc zero) row) = omega (arith, eb, sum-take-suc zero row (omega (arith, l))) in
     one ∙ sym (mod-eq-of-lt (omega (arith, one, eb, b 0)))
-first-parts row t l b ea eb ec ed (suc (suc zero)) h =
+lanes-first row t l b ea eb ec ed (suc (suc zero)) h =
     let two : t .c ≡ sum (take (suc (suc zero)) row) = omega (arith, eb, ec, sum-take-suc zero row (omega (arith, l)), sum-take-suc (suc zero) row (omega (arith, l))) in
     two ∙ sym (mod-eq-of-lt (omega (arith, two, eb, ec, b 0, b 1)))
-first-parts row t l b ea eb ec ed (suc (suc (suc zero))) h =
+lanes-first row t l b ea eb ec ed (suc (suc (suc zero))) h =
     let three : t .d ≡ sum (take (suc (suc (suc zero))) row) = omega (arith, eb, ec, ed, sum-take-suc zero row (omega (arith, l)), sum-take-suc (suc zero) row (omega (arith, l)), sum-take-suc (suc (suc zero)) row (omega (arith, l))) in
     three ∙ sym (mod-eq-of-lt (omega (arith, three, eb, ec, ed, b 0, b 1, b 2)))
-first-parts row t l b ea eb ec ed (suc (suc (suc (suc i)))) h = absurd (omega (arith, h))
+lanes-first row t l b ea eb ec ed (suc (suc (suc (suc i)))) h = absurd (omega (arith, h))
 
 -- four numbers added to four
-pub parts-added : (r t : Four) (more : List ℕ) → r .a ≡ (t .a + getD more 0 0) % 2 ^ 32 → r .b ≡ (t .b + getD more 1 0) % 2 ^ 32 → r .c ≡ (t .c + getD more 2 0) % 2 ^ 32 → r .d ≡ (t .d + getD more 3 0) % 2 ^ 32
-    → (i : ℕ) → i < 4 → part r i ≡ (part t i + getD more i 0) % 2 ^ 32
-unfolding part
-parts-added r t more ea eb ec ed zero h = ea
-parts-added r t more ea eb ec ed (suc zero) h = eb
-parts-added r t more ea eb ec ed (suc (suc zero)) h = ec
-parts-added r t more ea eb ec ed (suc (suc (suc zero))) h = ed
-parts-added r t more ea eb ec ed (suc (suc (suc (suc i)))) h = absurd (omega (arith, h))
+pub lanes-added : (r t : Lanes) (more : List ℕ) → r .a ≡ (t .a + getD more 0 0) % 2 ^ 32 → r .b ≡ (t .b + getD more 1 0) % 2 ^ 32 → r .c ≡ (t .c + getD more 2 0) % 2 ^ 32 → r .d ≡ (t .d + getD more 3 0) % 2 ^ 32
+    → (i : ℕ) → i < 4 → lane r i ≡ (lane t i + getD more i 0) % 2 ^ 32
+unfolding lane
+lanes-added r t more ea eb ec ed zero h = ea
+lanes-added r t more ea eb ec ed (suc zero) h = eb
+lanes-added r t more ea eb ec ed (suc (suc zero)) h = ec
+lanes-added r t more ea eb ec ed (suc (suc (suc zero))) h = ed
+lanes-added r t more ea eb ec ed (suc (suc (suc (suc i)))) h = absurd (omega (arith, h))
 
 -- four entries stored one behind another
 pub four-stored : (f : ℕ → ℕ) (d : List ℕ) (to a b c e : ℕ) → to + 4 ≤ length d → a ≡ f 0 → b ≡ f 1 → c ≡ f 2 → e ≡ f 3 → set (set (set (set d to a) (to + 1) b) (to + 2) c) (to + 3) e ≡ stored f d to 4

@@ -1,4 +1,4 @@
-// A row of running sums, from the row above it and a row of samples. Four entries are made at a time: what four samples add up to carries four running sums along,
+// A row of running sums, from the row above it and a row of samples. Lanes entries are made at a time: what four samples add up to carries four running sums along,
 // side by side.
 ghost use mathlib.Core.Path.{_≡_};
 ghost use mathlib.Core.Logic.{_⊎_};
@@ -7,10 +7,10 @@ ghost use Prim.Native.Nat.{ℕ, _+_, _*_, _%_, _^_, _≤_, _<_};
 ghost use lib.ListN.{length, getD, take, drop};
 ghost use Rattle.integers.specs.Sum.{sum};
 ghost use Rattle.lists.specs.Tabulate.{tabulate};
-ghost use Rattle.running_sums.specs.Fours.{fourSum, part};
+ghost use Rattle.running_sums.specs.Fours.{fourSum, lane};
 
-// Four running sums side by side.
-pub struct Four {
+// Lanes running sums side by side.
+pub struct Lanes {
     pub a: u32,
     pub b: u32,
     pub c: u32,
@@ -57,14 +57,14 @@ fn four_sums(row: &[u8], n: usize, dst: &mut [u16])
 }
 
 // The running sums at the first four places.
-fn first_four(row: &[u8]) -> Four
+fn first_lanes(row: &[u8]) -> Lanes
     requires { ⌜ 3 ≤ length (now row) ⌝ }
-    ensures { λ r. ⌜ ((i : ℕ) → i < 4 → part r i ≡ sum (take i (now (row .entry))) % 2 ^ 32) ⌝ }
+    ensures { λ r. ⌜ ((i : ℕ) → i < 4 → lane r i ≡ sum (take i (now (row .entry))) % 2 ^ 32) ⌝ }
 {
     let one = row[0] as u32;
     let two = one + row[1] as u32;
     let three = two + row[2] as u32;
-    Four {
+    Lanes {
         a: 0,
         b: one,
         c: two,
@@ -72,12 +72,12 @@ fn first_four(row: &[u8]) -> Four
     }
 }
 
-// Four running sums, four places on.
-fn next_four(t: Four, fours: &[u16]) -> Four
+// Lanes running sums, four places on.
+fn next_lanes(t: Lanes, fours: &[u16]) -> Lanes
     requires { ⌜ 4 ≤ length (now fours) ⌝ }
-    ensures { λ r. ⌜ ((i : ℕ) → i < 4 → part r i ≡ (part t i + getD (now (fours .entry)) i 0) % 2 ^ 32) ⌝ }
+    ensures { λ r. ⌜ ((i : ℕ) → i < 4 → lane r i ≡ (lane t i + getD (now (fours .entry)) i 0) % 2 ^ 32) ⌝ }
 {
-    Four {
+    Lanes {
         a: std::num::wrapping_add_u32(t.a, fours[0] as u32),
         b: std::num::wrapping_add_u32(t.b, fours[1] as u32),
         c: std::num::wrapping_add_u32(t.c, fours[2] as u32),
@@ -85,10 +85,10 @@ fn next_four(t: Four, fours: &[u16]) -> Four
     }
 }
 
-// Four entries at `to`: those at `from`, above them, and these running sums. All are read before one is stored.
-fn put_four(sums: &mut [u32], from: usize, to: usize, t: Four)
+// Lanes entries at `to`: those at `from`, above them, and these running sums. All are read before one is stored.
+fn put_lanes(sums: &mut [u32], from: usize, to: usize, t: Lanes)
     requires { ⌜ (from + 4 ≤ length (now sums)) × (to + 4 ≤ length (now sums)) ⌝ }
-    ensures { λ _. ⌜ now (sums .exit) ≡ take to (now (sums .entry)) ++ tabulate (λ i. (getD (now (sums .entry)) (from + i) 0 + part t i) % 2 ^ 32) 4 ++ drop (to + 4) (now (sums .entry)) ⌝ }
+    ensures { λ _. ⌜ now (sums .exit) ≡ take to (now (sums .entry)) ++ tabulate (λ i. (getD (now (sums .entry)) (from + i) 0 + lane t i) % 2 ^ 32) 4 ++ drop (to + 4) (now (sums .entry)) ⌝ }
 {
     let a = std::num::wrapping_add_u32(sums[from], t.a);
     let b = std::num::wrapping_add_u32(sums[from + 1], t.b);
@@ -105,12 +105,12 @@ fn add_blocks(sums: &mut [u32], from: usize, to: usize, n: usize, row: &[u8], fo
     requires { ⌜ (from + 4 * n ≤ length (now sums)) × (to + 4 * n ≤ length (now sums)) × ((to ≤ from) ⊎ (from + 4 * n ≤ to)) × (4 * n + 3 ≤ length (now row)) × (4 * n ≤ length (now fours)) × ((x : ℕ) → x < 4 * n → getD (now fours) x 0 ≡ fourSum (now row) x) ⌝ }
     ensures { λ total. ⌜ (total ≡ sum (take (4 * n) (now (row .entry))) % 2 ^ 32) × (now (sums .exit) ≡ take to (now (sums .entry)) ++ tabulate (λ x. (getD (now (sums .entry)) (from + x) 0 + sum (take x (now (row .entry)))) % 2 ^ 32) (4 * n) ++ drop (to + 4 * n) (now (sums .entry))) ⌝ }
 {
-    let mut t = first_four(row);
+    let mut t = first_lanes(row);
     let mut k = 0;
     while k < n {
         let x = 4 * k;
-        put_four(sums, from + x, to + x, t);
-        t = next_four(t, &fours[x..]);
+        put_lanes(sums, from + x, to + x, t);
+        t = next_lanes(t, &fours[x..]);
         k += 1;
     }
     t.a

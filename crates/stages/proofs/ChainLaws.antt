@@ -6,7 +6,7 @@ use mathlib.Core.List.{List, [], _∷_}
 use Rattle.lists.specs.Tabulate.{raster}
 use Rattle.model.specs.Plane.{planeOf}
 use Rattle.model.specs.Stage as Model
-use Rattle.table_sizes.specs.Needs.{heldSums, sumNeed}
+use Rattle.table_sizes.specs.Needs.{workSums, sumNeed}
 
 pub chain-none : (w h : ℕ) (samples : List ℕ) → Model.written w h [] samples ≡ samples
 unfolding Model.written
@@ -18,7 +18,7 @@ unfolding Model.written
 chain-more w h t ts samples plane e = rw e
 
 -- room for all is room for the first, and for the rest
-pub first-fits : (w : ℕ) (t : Model.Stage) (ts : List Model.Stage) {n : ℕ} → sumNeed w (t ∷ ts) ≤ n → heldSums w (t .work) ≤ n
+pub first-fits : (w : ℕ) (t : Model.Stage) (ts : List Model.Stage) {n : ℕ} → sumNeed w (t ∷ ts) ≤ n → workSums w (t .work) ≤ n
 unfolding sumNeed
 first-fits w t ts l = omega (arith, l)
 

@@ -5,7 +5,7 @@ use native.Mathlib.Omega.{arith}
 use mathlib.Core.Path.{_≡_, refl, ap}
 use mathlib.Core.List.{List, [], _∷_}
 use Rattle.model.specs.Stage.{Work, weighted, box, rank, outline, Stage}
-use Rattle.table_sizes.specs.Needs.{heldSums, sumNeed}
+use Rattle.table_sizes.specs.Needs.{workSums, sumNeed}
 
 -- the sums that a work held before, and those that all stages needed
 unfoldable pub tableBefore : ℕ → ℕ → Work → ℕ
@@ -19,8 +19,8 @@ needBefore W H [] = 0
 needBefore W H (t ∷ ts) = max (tableBefore W H (t .work)) (needBefore W H ts)
 
 module _ (W : ℕ) where
-  held-less : (H : ℕ) → 1 ≤ H → (t : Work) → heldSums W t ≤ tableBefore W H t
-  unfolding heldSums tableBefore
+  held-less : (H : ℕ) → 1 ≤ H → (t : Work) → workSums W t ≤ tableBefore W H t
+  unfolding workSums tableBefore
   held-less H h (weighted across down) = omega arith
   held-less H h (box r s) = mul-le-mul-left (W + 2 * r + 1) (omega (arith, h))
   held-less H h (rank r s p) = omega arith
@@ -32,8 +32,8 @@ module _ (W : ℕ) where
   never-more H h [] = omega arith
   never-more H h (t ∷ ts) = omega (arith, held-less H h (t .work), never-more H h ts)
 
-  held-alike : (t : Work) → heldSums W t ≡ tableBefore W 1 t
-  unfolding heldSums tableBefore
+  held-alike : (t : Work) → workSums W t ≡ tableBefore W 1 t
+  unfolding workSums tableBefore
   held-alike (weighted across down) = refl
   held-alike (box r s) = let rows : 2 * s + 2 ≡ 1 + 2 * s + 1 = omega arith in ap (λ (n : ℕ). (W + 2 * r + 1) * n) rows
   held-alike (rank r s p) = refl

@@ -1,4 +1,4 @@
--- Places in a circle of n rows of w entries: row y lies at y modulo n. Assumes nothing.
+-- Places in a ring of n rows of w entries: row y lies at y modulo n. Assumes nothing.
 use Prim.Native.Nat.{ℕ, _+_, _*_, _/_, _%_, _≤_, _<_}
 use native.Mathlib.Nat.{mod-lt, mod-self, mod-eq-of-lt, mod-add-mod, mod-add-div, add-mod-right, mul-le-mul-left, lt-of-not-le, le-of-mul-le-mul-right, lt-of-mul-lt-mul-right}
 use native.Mathlib.Decide.{decLe}
@@ -15,7 +15,7 @@ module _ (n w : ℕ) where
       omega (arith, ap (λ (i : ℕ). i * w) (sym (mod-add-mod y n 1) ∙ mod-eq-of-lt inside))
 
   module _ (some-row : 1 ≤ n) where
-    -- or at the front, where the circle ends
+    -- or at the front, where the ring ends
     pub place-front : (y : ℕ) → 1 ≤ w → n * w ≤ y % n * w + w → 0 ≡ (y + 1) % n * w
     place-front y b h =
         let past : n ≤ y % n + 1 = le-of-mul-le-mul-right {k = w} (omega (arith, h)) b in
@@ -26,7 +26,7 @@ module _ (n w : ℕ) where
     pub place-inside : (y : ℕ) → y % n * w + w ≤ n * w
     place-inside y = row-fits (y % n) n w (mod-lt y some-row)
 
-  -- n rows on the circle begins again
+  -- n rows on the ring begins again
   pub place-again : (y : ℕ) → (y + n) % n * w ≡ y % n * w
   place-again y = rw (add-mod-right y n)
 

@@ -1,3 +1,3 @@
 -- What must be lent for running sums, and where their rows lie, definitions only.
-pub mod Circle
+pub mod Ring
 pub mod Needs

@@ -5,7 +5,7 @@ use native.Mathlib.Omega.{arith}
 use mathlib.Core.Path.{_≡_, refl, sym}
 use lib.ListN.{length}
 use denote.Ref.{now}
-use Rattle.table_sizes.specs.Circle.{placeOf}
+use Rattle.table_sizes.specs.Ring.{rowStart}
 use Rattle.area_tables.specs.HeldTable.{HeldTable}
 use Rattle.area_tables.proofs.Held.{first-place, place-fits, held-first}
 use borrow.Author.Needs.{needs}
@@ -14,7 +14,7 @@ use Rattle.area_tables.proofs.first_rows.Tie as tie
 
 abbrev Inv-loop : tie.InvT-loop
 Inv-loop frame window plane row₀ fours₀ sums₀ w s at₀ k₀ row fours sums at k =
-    (k ≤ 2 * s) × (at ≡ placeOf (frame .width) window k) × HeldTable frame window plane k sums × (length row ≡ length row₀) × (length fours ≡ length fours₀) × (length sums ≡ length sums₀)
+    (k ≤ 2 * s) × (at ≡ rowStart (frame .width) window k) × HeldTable frame window plane k sums × (length row ≡ length row₀) × (length fours ≡ length fours₀) × (length sums ≡ length sums₀)
 
 abbrev μ-loop : tie.MeasureT-loop
 μ-loop frame window plane row₀ fours₀ sums₀ w s at₀ k₀ row fours sums at k = 2 * s - k

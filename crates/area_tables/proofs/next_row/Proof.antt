@@ -13,8 +13,8 @@ use Rattle.area_tables.proofs.next_row.Tie as tie
 sub-first : tie.Need-sub-first
 sub-first c = search needs
 
-place-after-requires : tie.Need-place-after-requires
-place-after-requires c κs = search needs
+next-start-requires : tie.Need-next-start-requires
+next-start-requires c κs = search needs
 
 sub-padded-row : tie.Need-sub-padded-row
 sub-padded-row c = search needs
@@ -43,7 +43,7 @@ add-row-requires c κs =
     let p = c .before .before .before .before .before .before .before .before .before .before .before .before .before .before .before .before .pre in
     let w = a .frame .width in
     let row = c .before .before .before .before .before .before .before .padded-row .last .1 .1 .1 .0 in
-    rw (c .before .before .before .before .table-width .ensures, c .before .before .before .before .before .before .before .before .before .before .place-after .ensures (a .k) (p .4), p .4)
+    rw (c .before .before .before .before .table-width .ensures, c .before .before .before .before .before .before .before .before .before .before .next-start .ensures (a .k) (p .4), p .4)
     (place-fits w (a .window) (a .k) (p .7), place-fits w (a .window) (a .k + 1) (p .7), next-apart w (a .window) (a .k), rw (tail-mid (15 - a .window .r) row, length-drop) (omega (arith, c .before .before .before .before .before .before .row .given, p .1, p .5)), omega (arith, p .1, p .6))
 
 same-length : tie.Need-same-length
@@ -60,7 +60,7 @@ unfolding stored
 returns c =
     let a = c .before .before .before .before .before .before .before .before .before .before .before .before .before .before .before .before .before .before .before .before .before .args in
     let p = c .before .before .before .before .before .before .before .before .before .before .before .before .before .before .before .before .before .before .before .before .before .pre in
-    let to = c .before .before .before .before .before .before .before .before .before .before .before .before .before .before .before .place-after .ensures (a .k) (p .4) in
+    let to = c .before .before .before .before .before .before .before .before .before .before .before .before .before .before .before .next-start .ensures (a .k) (p .4) in
     let row = c .before .before .before .before .before .before .before .before .before .before .before .before .padded-row .last .1 .1 .1 .0 in
     (to, held-more (a .frame) (a .window) (now (a .plane)) row _ (length row - (15 - a .window .r)) (a .k) (now (a .sums)) _ (p .1) (omega (arith, p .1, p .5, c .before .before .before .before .before .before .before .before .before .before .before .row .given)) (p .7) (p .8) (c .before .before .before .before .before .before .before .before .before .before .before .before .padded-row .ensures) (rw (c .before .before .before .before .before .before .before .before .before .table-width .ensures, to, p .4) at (c .before .before .before .before .add-row .ensures)))
 
@@ -69,7 +69,7 @@ next-row-spec =
     tie.close
     (tie.spec
     sub-first
-    place-after-requires
+    next-start-requires
     sub-padded-row
     add-padded-row
     padded-row-requires

@@ -14,7 +14,7 @@ use Rattle.model.specs.Window as Model
 use Rattle.model.specs.Box.{boxResult}
 use Rattle.model_laws.proofs.Window.{area-le}
 use Rattle.frame.specs.Framed.{neighbours, worked}
-use Rattle.table_sizes.specs.Circle.{placeOf}
+use Rattle.table_sizes.specs.Ring.{rowStart}
 use Rattle.area_tables.specs.HeldTable.{HeldTable}
 use Rattle.kept_planes.specs.HeldRow.{kept}
 use Rattle.kept_planes.proofs.Planes.{part-behind, plane-behind, plane-small, kept-same, kept-bytes}
@@ -26,7 +26,7 @@ use Rattle.boxes.proofs.write_rows.Tie as tie
 abbrev Inv-loop : tie.InvT-loop
 Inv-loop frame window last work₀ row₀ fours₀ sums₀ w h s n by lower₀ at₀ v₀ work row fours sums lower at v =
     StoredRows (λ i j. boxResult (window .r) (window .s) (neighbours frame (kept frame work₀) i j)) (frame .width) (frame .height) work₀ work at v
-    × (lower ≡ placeOf (frame .width) window (2 * window .s + v)) × HeldTable frame window (kept frame work₀) (2 * window .s + v) sums
+    × (lower ≡ rowStart (frame .width) window (2 * window .s + v)) × HeldTable frame window (kept frame work₀) (2 * window .s + v) sums
     × (length row ≡ length row₀) × (length fours ≡ length fours₀) × (length sums ≡ length sums₀)
 
 abbrev μ-loop : tie.MeasureT-loop
@@ -85,17 +85,17 @@ next-row-requires c κs =
     rw (part-behind n (L .work), kept-same (a .frame) _ (now (a .work)) (L .work) (L .inv .0))
     (p .0, p .1, p .2, omega (arith, c .before .before .before .before .before .loop-test .taken, p .0 .height .1, p .2), L .inv .1, omega (arith, p .3, L .inv .3), omega (arith, p .4, L .inv .4), omega (arith, p .5, L .inv .5), L .inv .2)
 
-sub-mean-row : tie.Need-sub-mean-row Inv-loop μ-loop
-sub-mean-row c = omega (arith, next-row (c .before .before .before .before .before .before .before .before .before .before .before .before .before .before) (c .before .before .before .before .before .before .before .before .before .before .before .before .before .loop-test .taken))
+sub-row-of-means : tie.Need-sub-row-of-means Inv-loop μ-loop
+sub-row-of-means c = omega (arith, next-row (c .before .before .before .before .before .before .before .before .before .before .before .before .before .before) (c .before .before .before .before .before .before .before .before .before .before .before .before .before .loop-test .taken))
 
-part-mean-row-start : tie.Need-part-mean-row-start Inv-loop μ-loop
-part-mean-row-start c = omega (arith, next-row (c .before .before .before .before .before .before .before .before .before .before .before .before .before .before) (c .before .before .before .before .before .before .before .before .before .before .before .before .before .loop-test .taken))
+part-row-of-means-start : tie.Need-part-row-of-means-start Inv-loop μ-loop
+part-row-of-means-start c = omega (arith, next-row (c .before .before .before .before .before .before .before .before .before .before .before .before .before .before) (c .before .before .before .before .before .before .before .before .before .before .before .before .before .loop-test .taken))
 
-part-mean-row-end : tie.Need-part-mean-row-end Inv-loop μ-loop
-part-mean-row-end c = search needs
+part-row-of-means-end : tie.Need-part-row-of-means-end Inv-loop μ-loop
+part-row-of-means-end c = search needs
 
-mean-row-requires : tie.Need-mean-row-requires Inv-loop μ-loop
-mean-row-requires c κs =
+row-of-means-requires : tie.Need-row-of-means-requires Inv-loop μ-loop
+row-of-means-requires c κs =
     let a = c .before .before .before .before .before .before .before .before .before .before .before .before .before .before .before .before .before .before .before .before .before .before .args in
     let p = c .before .before .before .before .before .before .before .before .before .before .before .before .before .before .before .before .before .before .before .before .before .before .pre in
     let f = a .frame in
@@ -134,7 +134,7 @@ loop-again c =
     let made = rw (part-behind n (L .work), kept-same f _ (now (a .work)) (L .work) (L .inv .0), down) at (c .before .before .before .before .before .before .before .before .before .before .before .next-row .ensures) in
     let bytes = kept-bytes n (now (a .work)) (λ i. omega (arith, c .before .before .before .before .before .before .before .before .before .before .before .before .before .before .before .before .before .before .before .before .before .before .before .before .slice-known .given i)) in
     let means = row-means f (a .window) (kept f (now (a .work))) (p .1) (p .2) (omega (arith, c .before .before .before .before .before .before .before .before .before .before .before .before .before .before .before .before .before .before .before .before .before .before .before .before .before .good)) bytes _ (L .v) (made .1) in
-    let row = c .before .before .mean-row .ensures (L .v) (made .0) ∙ ap (λ (l : List ℕ). l ++ drop (f .width) (take (length (L .work) - L .at) (drop (L .at) (L .work)))) means in
+    let row = c .before .before .row-of-means .ensures (L .v) (made .0) ∙ ap (λ (l : List ℕ). l ++ drop (f .width) (take (length (L .work) - L .at) (drop (L .at) (L .work)))) means in
     (rows-stored-more (L .inv .0) (c .before .before .before .before .before .before .before .before .before .before .before .before .before .before .before .before .before .loop-test .taken) _ (omega (arith, next-row (c .before .before .before .before .before .before .before .before .before .before .before .before .before .before .before .before .before .before) (c .before .before .before .before .before .before .before .before .before .before .before .before .before .before .before .before .before .loop-test .taken))) row, rw next at (made .0), rw next at (made .1), search needs, search needs, search needs)
 
 same-length : tie.Need-same-length Inv-loop μ-loop
@@ -172,10 +172,10 @@ write-rows-spec =
     mul-next-row
     add-next-row
     next-row-requires
-    sub-mean-row
-    part-mean-row-start
-    part-mean-row-end
-    mean-row-requires
+    sub-row-of-means
+    part-row-of-means-start
+    part-row-of-means-end
+    row-of-means-requires
     add-at
     add-v
     loop-less

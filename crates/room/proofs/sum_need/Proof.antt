@@ -54,8 +54,8 @@ add-at c = record { fits = omega (arith, c .stage-length .ensures .2, walk-near 
 add-k : tie.Need-add-k Inv-loop μ-loop
 add-k c = search needs
 
-held-sums-requires : tie.Need-held-sums-requires Inv-loop μ-loop
-held-sums-requires c κs = (c .before .before .before .before .before .before .before .pre .0, (_, c .before .read-stage .ensures))
+work-sums-requires : tie.Need-work-sums-requires Inv-loop μ-loop
+work-sums-requires c κs = (c .before .before .before .before .before .before .before .pre .0, (_, c .before .read-stage .ensures))
 
 larger-requires : tie.Need-larger-requires Inv-loop μ-loop
 larger-requires c κs = search needs
@@ -72,7 +72,7 @@ loop-again c =
     let m = tail-mid (L .at) b in
     let len = rw m at (n .0) in (
       walk-more b (L .inv .0) t _ len (rw m at (n .1)) (n .2),
-      L .inv .1 ∙ rw (walk-stages b (L .inv .0) t _ len) (need-more _ _ _ _ _ (rw m at (c .before .held-sums .ensures _ (c .before .before .before .read-stage .ensures))) ∙ rw (c .larger .ensures)),
+      L .inv .1 ∙ rw (walk-stages b (L .inv .0) t _ len) (need-more _ _ _ _ _ (rw m at (c .before .work-sums .ensures _ (c .before .before .before .read-stage .ensures))) ∙ rw (c .larger .ensures)),
     )
 
 returns : tie.Need-returns Inv-loop μ-loop
@@ -96,7 +96,7 @@ sum-need-spec =
     stage-length-requires
     add-at
     add-k
-    held-sums-requires
+    work-sums-requires
     larger-requires
     loop-less
     loop-again

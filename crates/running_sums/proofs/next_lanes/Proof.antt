@@ -1,10 +1,10 @@
--- `running_sums::next_four` meets its contract. Assumes nothing.
+-- `running_sums::next_lanes` meets its contract. Assumes nothing.
 use native.Mathlib.Omega.{arith}
 use denote.Ref.{now}
-use Rattle.running_sums.proofs.Blocks.{parts-added}
+use Rattle.running_sums.proofs.Blocks.{lanes-added}
 use borrow.Author.Needs.{needs}
-use Rattle.running_sums.proofs.next_four.Statement.{statement}
-use Rattle.running_sums.proofs.next_four.Tie as tie
+use Rattle.running_sums.proofs.next_lanes.Statement.{statement}
+use Rattle.running_sums.proofs.next_lanes.Tie as tie
 
 shared-slice-read-wrapping-add-u32 : tie.Need-shared-slice-read-wrapping-add-u32
 shared-slice-read-wrapping-add-u32 c = search needs
@@ -43,10 +43,10 @@ wrapping-add-u32-requires-4 : tie.Need-wrapping-add-u32-requires-4
 wrapping-add-u32-requires-4 c κs = search needs
 
 returns : tie.Need-returns
-returns c = parts-added _ (c .before .before .before .before .before .before .before .before .before .args .t) (now (c .before .before .before .before .before .before .before .before .before .args .fours)) (c .before .before .before .before .before .before .wrapping-add-u32 .ensures) (c .before .before .before .before .wrapping-add-u322 .ensures) (c .before .before .wrapping-add-u323 .ensures) (c .wrapping-add-u324 .ensures)
+returns c = lanes-added _ (c .before .before .before .before .before .before .before .before .before .args .t) (now (c .before .before .before .before .before .before .before .before .before .args .fours)) (c .before .before .before .before .before .before .wrapping-add-u32 .ensures) (c .before .before .before .before .wrapping-add-u322 .ensures) (c .before .before .wrapping-add-u323 .ensures) (c .wrapping-add-u324 .ensures)
 
-pub next-four-spec : {M : Type 1} → statement M
-next-four-spec =
+pub next-lanes-spec : {M : Type 1} → statement M
+next-lanes-spec =
     tie.close
     (tie.spec
     shared-slice-read-wrapping-add-u32

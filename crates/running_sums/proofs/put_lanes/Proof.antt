@@ -1,4 +1,4 @@
--- `running_sums::put_four` meets its contract. Assumes nothing.
+-- `running_sums::put_lanes` meets its contract. Assumes nothing.
 use Prim.Native.Nat.{ℕ, _+_, _%_, _^_}
 use native.Mathlib.Nat.{add-zero}
 use native.Mathlib.Omega.{arith}
@@ -6,11 +6,11 @@ use mathlib.Core.Path.{_≡_}
 use lib.ListN.{getD, length-set}
 use denote.Ref.{now}
 use Rattle.lists.proofs.StoredAt.{stored}
-use Rattle.running_sums.specs.Fours.{part}
+use Rattle.running_sums.specs.Fours.{lane}
 use Rattle.running_sums.proofs.Blocks.{four-stored}
 use borrow.Author.Needs.{needs}
-use Rattle.running_sums.proofs.put_four.Statement.{statement}
-use Rattle.running_sums.proofs.put_four.Tie as tie
+use Rattle.running_sums.proofs.put_lanes.Statement.{statement}
+use Rattle.running_sums.proofs.put_lanes.Tie as tie
 
 mul-wrapping-add-u32 : tie.Need-mul-wrapping-add-u32
 mul-wrapping-add-u32 c = search needs
@@ -94,15 +94,15 @@ same-length : tie.Need-same-length
 same-length c = search needs
 
 returns : tie.Need-returns
-unfolding stored part
+unfolding stored lane
 returns c =
     let a = c .before .before .before .before .before .before .before .before .before .args in
-    let f : ℕ → ℕ = λ i. (getD (now (a .sums)) (a .from + i) 0 + part (a .t) i) % 2 ^ 32 in
+    let f : ℕ → ℕ = λ i. (getD (now (a .sums)) (a .from + i) 0 + lane (a .t) i) % 2 ^ 32 in
     let first : a .from + 0 ≡ a .from = add-zero (a .from) in
     four-stored f (now (a .sums)) (a .to) _ _ _ _ (c .before .before .before .before .before .before .before .before .before .pre .1) (rw first (c .before .before .before .before .before .before .wrapping-add-u32 .ensures)) (c .before .before .before .before .wrapping-add-u322 .ensures) (c .before .before .wrapping-add-u323 .ensures) (c .wrapping-add-u324 .ensures)
 
-pub put-four-spec : {M : Type 1} → statement M
-put-four-spec =
+pub put-lanes-spec : {M : Type 1} → statement M
+put-lanes-spec =
     tie.close
     (tie.spec
     mul-wrapping-add-u32

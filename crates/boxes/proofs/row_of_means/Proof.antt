@@ -1,4 +1,4 @@
--- `boxes::mean_row` meets its contract: the row after the lower edge is the upper one. Assumes nothing.
+-- `boxes::row_of_means` meets its contract: the row after the lower edge is the upper one. Assumes nothing.
 use Prim.Native.Nat.{ℕ, _+_, _*_}
 use native.Mathlib.Omega.{arith}
 use mathlib.Core.Path.{_≡_}
@@ -10,8 +10,8 @@ use Rattle.model_laws.proofs.Window.{area-le}
 use Rattle.boxes.specs.WindowCorners.{cornersAt}
 use Rattle.boxes.proofs.Edges.{upper-edge, upper-fits, lower-fits}
 use borrow.Author.Needs.{needs}
-use Rattle.boxes.proofs.mean_row.Statement.{statement}
-use Rattle.boxes.proofs.mean_row.Tie as tie
+use Rattle.boxes.proofs.row_of_means.Statement.{statement}
+use Rattle.boxes.proofs.row_of_means.Tie as tie
 
 area-requires : tie.Need-area-requires
 area-requires c κs = search needs
@@ -22,8 +22,8 @@ mul-across c = search needs
 add-across : tie.Need-add-across
 add-across c = search needs
 
-place-after-requires : tie.Need-place-after-requires
-place-after-requires c κs =
+next-start-requires : tie.Need-next-start-requires
+next-start-requires c κs =
     let p = c .before .before .before .before .pre in
     (p .0, p .1, p .2, (p .6 .0 + (2 * c .before .before .before .before .args .window .s + 1), p .6 .1))
 
@@ -32,7 +32,7 @@ mul-mean-row c =
     let a = c .before .before .before .before .before .args in
     let p = c .before .before .before .before .before .pre in
     let v = p .6 .0 in
-    let eu = c .place-after .ensures (v + (2 * a .window .s + 1)) (p .6 .1) in
+    let eu = c .next-start .ensures (v + (2 * a .window .s + 1)) (p .6 .1) in
     record { fits = omega (arith, upper-fits (a .w) (a .window) v (a .lower) _ (p .6 .1) eu (p .3)) }
 
 sub-mean-row : tie.Need-sub-mean-row
@@ -40,7 +40,7 @@ sub-mean-row c =
     let a = c .before .before .before .before .before .args in
     let p = c .before .before .before .before .before .pre in
     let v = p .6 .0 in
-    let eu = c .place-after .ensures (v + (2 * a .window .s + 1)) (p .6 .1) in
+    let eu = c .next-start .ensures (v + (2 * a .window .s + 1)) (p .6 .1) in
     omega (arith, upper-fits (a .w) (a .window) v (a .lower) _ (p .6 .1) eu (p .3))
 
 part-mean-row-start : tie.Need-part-mean-row-start
@@ -48,7 +48,7 @@ part-mean-row-start c =
     let a = c .before .before .before .before .before .args in
     let p = c .before .before .before .before .before .pre in
     let v = p .6 .0 in
-    let eu = c .place-after .ensures (v + (2 * a .window .s + 1)) (p .6 .1) in
+    let eu = c .next-start .ensures (v + (2 * a .window .s + 1)) (p .6 .1) in
     omega (arith, upper-fits (a .w) (a .window) v (a .lower) _ (p .6 .1) eu (p .3))
 
 part-mean-row-end : tie.Need-part-mean-row-end
@@ -59,7 +59,7 @@ mul-mean-row-2 c =
     let a = c .before .before .before .before .before .before .args in
     let p = c .before .before .before .before .before .before .pre in
     let v = p .6 .0 in
-    let eu = c .before .place-after .ensures (v + (2 * a .window .s + 1)) (p .6 .1) in
+    let eu = c .before .next-start .ensures (v + (2 * a .window .s + 1)) (p .6 .1) in
     record { fits = omega (arith, lower-fits (a .w) (a .window) v (a .lower) _ (p .6 .1) eu (p .3)) }
 
 sub-mean-row-2 : tie.Need-sub-mean-row-2
@@ -67,7 +67,7 @@ sub-mean-row-2 c =
     let a = c .before .before .before .before .before .before .args in
     let p = c .before .before .before .before .before .before .pre in
     let v = p .6 .0 in
-    let eu = c .before .place-after .ensures (v + (2 * a .window .s + 1)) (p .6 .1) in
+    let eu = c .before .next-start .ensures (v + (2 * a .window .s + 1)) (p .6 .1) in
     omega (arith, lower-fits (a .w) (a .window) v (a .lower) _ (p .6 .1) eu (p .3))
 
 part-mean-row-start-2 : tie.Need-part-mean-row-start-2
@@ -75,7 +75,7 @@ part-mean-row-start-2 c =
     let a = c .before .before .before .before .before .before .args in
     let p = c .before .before .before .before .before .before .pre in
     let v = p .6 .0 in
-    let eu = c .before .place-after .ensures (v + (2 * a .window .s + 1)) (p .6 .1) in
+    let eu = c .before .next-start .ensures (v + (2 * a .window .s + 1)) (p .6 .1) in
     omega (arith, lower-fits (a .w) (a .window) v (a .lower) _ (p .6 .1) eu (p .3))
 
 part-mean-row-end-2 : tie.Need-part-mean-row-end-2
@@ -87,9 +87,9 @@ mean-row-requires c κs =
     let a = c .before .before .before .before .before .before .before .before .args in
     let p = c .before .before .before .before .before .before .before .before .pre in
     let v = p .6 .0 in
-    let eu = c .before .before .before .place-after .ensures (v + (2 * a .window .s + 1)) (p .6 .1) in
+    let eu = c .before .before .before .next-start .ensures (v + (2 * a .window .s + 1)) (p .6 .1) in
     let n = now (a .sums) in
-    let upper = c .before .before .before .place-after .result in (
+    let upper = c .before .before .before .next-start .result in (
       p .4,
       rw (tail-mid upper n, length-drop) (omega (arith, upper-fits (a .w) (a .window) v (a .lower) _ (p .6 .1) eu (p .3))),
       rw (tail-mid (a .lower) n, length-drop) (omega (arith, lower-fits (a .w) (a .window) v (a .lower) _ (p .6 .1) eu (p .3))),
@@ -107,17 +107,17 @@ unfolding cornersAt
 returns c =
     let a = c .before .before .before .before .before .before .before .before .before .before .before .args in
     let n = now (a .sums) in
-    let upper = c .before .before .before .before .before .before .place-after .result in
-    λ v e. rw (c .before .before .before .before .before .before .before .before .area .ensures, tail-mid upper n, tail-mid (a .lower) n, upper-edge (a .w) (a .window) v (a .lower) upper e (c .before .before .before .before .before .before .place-after .ensures (v + (2 * a .window .s + 1)) e), e) at (c .before .before .mean-row .ensures)
+    let upper = c .before .before .before .before .before .before .next-start .result in
+    λ v e. rw (c .before .before .before .before .before .before .before .before .area .ensures, tail-mid upper n, tail-mid (a .lower) n, upper-edge (a .w) (a .window) v (a .lower) upper e (c .before .before .before .before .before .before .next-start .ensures (v + (2 * a .window .s + 1)) e), e) at (c .before .before .mean-row .ensures)
 
-pub mean-row-spec : {M : Type 1} → statement M
-mean-row-spec =
+pub row-of-means-spec : {M : Type 1} → statement M
+row-of-means-spec =
     tie.close
     (tie.spec
     area-requires
     mul-across
     add-across
-    place-after-requires
+    next-start-requires
     mul-mean-row
     sub-mean-row
     part-mean-row-start

@@ -1,11 +1,11 @@
--- `running_sums::first_four` meets its contract. Assumes nothing.
+-- `running_sums::first_lanes` meets its contract. Assumes nothing.
 use native.Mathlib.Omega.{arith}
 use mathlib.Core.Path.{refl}
 use denote.Ref.{now}
-use Rattle.running_sums.proofs.Blocks.{first-parts}
+use Rattle.running_sums.proofs.Blocks.{lanes-first}
 use borrow.Author.Needs.{needs}
-use Rattle.running_sums.proofs.first_four.Statement.{statement}
-use Rattle.running_sums.proofs.first_four.Tie as tie
+use Rattle.running_sums.proofs.first_lanes.Statement.{statement}
+use Rattle.running_sums.proofs.first_lanes.Tie as tie
 
 shared-slice-read-one : tie.Need-shared-slice-read-one
 shared-slice-read-one c = search needs
@@ -32,10 +32,10 @@ add-three : tie.Need-add-three
 add-three c = record { fits = omega (arith, c .before .before .shared-slice-known .given 0, c .before .before .shared-slice-known .given 1, c .before .before .shared-slice-known .given 2) }
 
 returns : tie.Need-returns
-returns c = first-parts (now (c .before .before .before .args .row)) _ (c .before .before .before .pre) (λ i. omega (arith, c .before .before .shared-slice-known .given i)) refl refl refl refl
+returns c = lanes-first (now (c .before .before .before .args .row)) _ (c .before .before .before .pre) (λ i. omega (arith, c .before .before .shared-slice-known .given i)) refl refl refl refl
 
-pub first-four-spec : {M : Type 1} → statement M
-first-four-spec =
+pub first-lanes-spec : {M : Type 1} → statement M
+first-lanes-spec =
     tie.close
     (tie.spec
     shared-slice-read-one
