@@ -13,7 +13,7 @@ use Rattle.table_sizes.specs.Ring.{tableWidth, rowStart}
 use Rattle.area_tables.specs.Table.{entry, fullTable}
 use Rattle.area_tables.specs.HeldTable.{HeldTable}
 use Rattle.mean_rows.specs.Corners.{corners}
-use Rattle.boxes.specs.WindowCorners.{cornersAt, fullCorners}
+use Rattle.window_means.specs.WindowCorners.{cornersAt, fullCorners}
 
 module _ (f : Frame) (w : Window) (samples : List ℕ) where
   -- a list whose front is row y of the table

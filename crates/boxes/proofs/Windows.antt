@@ -23,7 +23,7 @@ use Rattle.table_sizes.specs.Ring.{tableWidth}
 use Rattle.area_tables.specs.Table.{extended, entry}
 use Rattle.area_tables.specs.HeldTable.{HeldTable}
 use Rattle.mean_rows.specs.Corners.{corners}
-use Rattle.boxes.specs.WindowCorners.{cornersAt}
+use Rattle.window_means.specs.WindowCorners.{cornersAt}
 use Rattle.boxes.proofs.FullTable.{Row, upper-held, lower-held}
 use Rattle.area_tables.proofs.Sums.{window-total}
 use Rattle.mean_rows.proofs.Corners.{difference-is-sum}

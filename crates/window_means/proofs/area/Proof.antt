@@ -1,11 +1,11 @@
--- `boxes::area` meets its contract. Assumes nothing.
+-- `window_means::area` meets its contract. Assumes nothing.
 use native.Mathlib.Omega.{arith}
 use mathlib.Core.Path.{refl}
 use Rattle.model.specs.Window as Model
 use Rattle.model_laws.proofs.Window.{area-le}
 use borrow.Author.Needs.{needs}
-use Rattle.boxes.proofs.area.Statement.{statement}
-use Rattle.boxes.proofs.area.Tie as tie
+use Rattle.window_means.proofs.area.Statement.{statement}
+use Rattle.window_means.proofs.area.Tie as tie
 
 mul-result : tie.Need-mul-result
 mul-result c = search needs

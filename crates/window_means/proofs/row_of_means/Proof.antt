@@ -1,4 +1,4 @@
--- `boxes::row_of_means` meets its contract: the row after the lower edge is the upper one. Assumes nothing.
+-- `window_means::row_of_means` meets its contract: the row after the lower edge is the upper one. Assumes nothing.
 use Prim.Native.Nat.{ℕ, _+_, _*_}
 use native.Mathlib.Omega.{arith}
 use mathlib.Core.Path.{_≡_}
@@ -7,11 +7,11 @@ use denote.Ref.{now}
 use Rattle.lists.proofs.Part.{tail-mid}
 use Rattle.model.specs.Window as Model
 use Rattle.model_laws.proofs.Window.{area-le}
-use Rattle.boxes.specs.WindowCorners.{cornersAt}
-use Rattle.boxes.proofs.Edges.{upper-edge, upper-fits, lower-fits}
+use Rattle.window_means.specs.WindowCorners.{cornersAt}
+use Rattle.window_means.proofs.Edges.{upper-edge, upper-fits, lower-fits}
 use borrow.Author.Needs.{needs}
-use Rattle.boxes.proofs.row_of_means.Statement.{statement}
-use Rattle.boxes.proofs.row_of_means.Tie as tie
+use Rattle.window_means.proofs.row_of_means.Statement.{statement}
+use Rattle.window_means.proofs.row_of_means.Tie as tie
 
 area-requires : tie.Need-area-requires
 area-requires c κs = search needs
