@@ -7,7 +7,7 @@ use mathlib.Core.Path.{_≡_, refl}
 use Rattle.integers.specs.Sum.{sum}
 use Rattle.lists.specs.Tabulate.{tabulate, raster}
 use Rattle.lists.proofs.Tabulate.{tabulate-add}
-use Rattle.running_sums.proofs.Sums.{sum-append}
+use Rattle.lists.proofs.Sums.{sum-append}
 
 module _ (f : ℕ → ℕ → ℕ) where
   -- the first x columns and y rows

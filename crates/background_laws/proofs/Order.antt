@@ -12,7 +12,7 @@ use Rattle.integers.specs.Sum.{sum}
 use Rattle.lists.specs.Tabulate.{tabulate}
 use Rattle.lists.proofs.Count.{Bit, one, none, bit-lt}
 use Rattle.lists.proofs.Tabulate.{tabulate-ext, tabulate-getD}
-use Rattle.lists.proofs.Sums.{sum-more, map-tabulate}
+use Rattle.lists.proofs.Sums.{sum-append, sum-more, map-tabulate}
 use Rattle.model.specs.Outline.{largest}
 use Rattle.background.specs.Background.{Member, member, Background, samples}
 use Rattle.background.specs.Change.{without}
@@ -41,11 +41,6 @@ same-cons x s = record { sums = λ f. omega (arith, s .sums f) }
 pub same-swap : (x y : Member) (xs : List Member) → Same (x ∷ y ∷ xs) (y ∷ x ∷ xs)
 unfolding sum
 same-swap x y xs = record { sums = λ f. omega arith }
-
-sum-append : (xs ys : List ℕ) → sum (xs ++ ys) ≡ sum xs + sum ys
-unfolding sum
-sum-append [] ys = omega arith
-sum-append (x ∷ xs) ys = omega (arith, sum-append xs ys)
 
 pub sum-both : {A : Type 0} (f : A → ℕ) (xs ys : List A) → sum (map f (xs ++ ys)) ≡ sum (map f xs) + sum (map f ys)
 sum-both f xs ys = rw (map-append f xs ys) (sum-append (map f xs) (map f ys))

@@ -1,13 +1,18 @@
--- Sums and counts over a list that is given by a function, one entry more at a time. Assumes nothing.
+-- Sums and counts over lists: of two in one, and of one that is given by a function, one entry more at a time. Assumes nothing.
 use Prim.Native.Nat.{ℕ, zero, suc, _+_, _*_, _≤_, _<_}
 use native.Mathlib.Numerals.{add-one}
 use native.Mathlib.Omega.{arith}
 use mathlib.Core.Path.{_≡_, refl}
 use mathlib.Core.Bool.{Bool, cond}
-use mathlib.Core.List.{List, _∷_, map}
+use mathlib.Core.List.{List, [], _∷_, _++_, map}
 use Rattle.integers.specs.Sum.{sum}
 use Rattle.lists.specs.Tabulate.{tabulate}
 use Rattle.lists.specs.Count.{count}
+
+pub sum-append : (xs ys : List ℕ) → sum (xs ++ ys) ≡ sum xs + sum ys
+unfolding sum
+sum-append [] ys = omega arith
+sum-append (x ∷ xs) ys = omega (arith, sum-append xs ys)
 
 sum-suc : (f : ℕ → ℕ) (n : ℕ) → sum (tabulate f (suc n)) ≡ sum (tabulate f n) + f n
 unfolding sum tabulate

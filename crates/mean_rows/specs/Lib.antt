@@ -1,3 +1,3 @@
 -- Windows in rows of a summed-area table, definitions only.
 pub mod Corners
-pub mod Mean
+pub mod Reciprocal

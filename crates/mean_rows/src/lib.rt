@@ -4,7 +4,8 @@ ghost use mathlib.Core.List.{_++_};
 ghost use Prim.Native.Nat.{ℕ, _+_, _-_, _*_, _/_, _^_, _≤_, _<_};
 ghost use lib.ListN.{length, drop};
 ghost use Rattle.lists.specs.Tabulate.{tabulate};
-ghost use Rattle.mean_rows.specs.Mean.{meanOf, reciprocalOf};
+ghost use Rattle.integers.specs.Divide.{nearest};
+ghost use Rattle.mean_rows.specs.Reciprocal.{reciprocalOf};
 ghost use Rattle.mean_rows.specs.Corners.{corners};
 
 // The sum of a window from its four corners. Entries are modulo 2^32, and so is this: a window's sum is smaller.
@@ -29,7 +30,7 @@ pub fn reciprocal(area: u32) -> u32
 // (2 sum + area) / (2 area) by the reciprocal: no division for each sample, and the one product is of two numbers of 32 bits, as vectors have it.
 fn mean(sum: u32, area: u32, by: u32) -> u8
     requires { ⌜ (1 ≤ area) × (area ≤ 961) × (sum ≤ 255 * area) × (by ≡ reciprocalOf area) ⌝ }
-    ensures { λ r. ⌜ r ≡ meanOf sum area ⌝ }
+    ensures { λ r. ⌜ r ≡ nearest sum area ⌝ }
 {
     (((2 * sum + area) as u64 * by as u64) >> 32) as u8
 }
@@ -45,7 +46,7 @@ pub fn mean_row(
     dst: &mut [u8],
 )
     requires { ⌜ (w ≤ length (now dst)) × (across + w ≤ length (now upper)) × (across + w ≤ length (now lower)) × (1 ≤ area) × (area ≤ 961) × (by ≡ reciprocalOf area) × ((u : ℕ) → u < w → corners (now upper) (now lower) across u ≤ 255 * area) ⌝ }
-    ensures { λ _. ⌜ now (dst .exit) ≡ tabulate (λ u. meanOf (corners (now (upper .entry)) (now (lower .entry)) across u) area) w ++ drop w (now (dst .entry)) ⌝ }
+    ensures { λ _. ⌜ now (dst .exit) ≡ tabulate (λ u. nearest (corners (now (upper .entry)) (now (lower .entry)) across u) area) w ++ drop w (now (dst .entry)) ⌝ }
 {
     let mut u = 0;
     while u < w {

@@ -4,16 +4,12 @@ use native.Mathlib.Nat.{not-suc-le-zero, le-of-suc-le-suc}
 use native.Mathlib.Numerals.{add-one}
 use native.Mathlib.Omega.{arith}
 use mathlib.Core.Path.{_≡_, ap, _∙_}
-use mathlib.Core.List.{List, [], _∷_, _++_}
+use mathlib.Core.List.{List, [], _∷_}
 use lib.ListN.{length, take, drop, getD}
 use lib.Seq.{take-add}
 use Rattle.integers.specs.Sum.{sum}
+use Rattle.lists.proofs.Sums.{sum-append}
 use Rattle.running_sums.specs.Fours.{fourSum}
-
-pub sum-append : (xs ys : List ℕ) → sum (xs ++ ys) ≡ sum xs + sum ys
-unfolding sum
-sum-append [] ys = omega arith
-sum-append (x ∷ xs) ys = omega (arith, sum-append xs ys)
 
 -- the front of a list, one element longer
 pub sum-take-suc : (n : ℕ) (xs : List ℕ) → n < length xs → sum (take (suc n) xs) ≡ sum (take n xs) + getD xs n 0

@@ -4,10 +4,11 @@ ghost use mathlib.Core.Path.{_≡_};
 ghost use mathlib.Core.List.{_++_};
 ghost use Prim.Native.Nat.{ℕ, _+_, _*_, _≤_, _<_};
 ghost use lib.ListN.{length, drop};
+ghost use Rattle.integers.specs.Divide.{nearest};
 ghost use Rattle.lists.specs.Tabulate.{tabulate};
 ghost use Rattle.model.specs.Window as Model;
 ghost use Rattle.table_sizes.specs.Ring.{ringSize, rowStart};
-ghost use Rattle.mean_rows.specs.Mean.{meanOf, reciprocalOf};
+ghost use Rattle.mean_rows.specs.Reciprocal.{reciprocalOf};
 ghost use Rattle.window_means.specs.WindowCorners.{cornersAt};
 
 // How many samples a window has.
@@ -21,7 +22,7 @@ pub fn area(window: Window) -> u32
 // A row of means, from the rows of sums that are held: the lower edge of its windows lies at `lower`, and their upper edge, the oldest row, after it.
 pub fn row_of_means(sums: &[u32], w: usize, window: Window, lower: usize, by: u32, dst: &mut [u8])
     requires { ⌜ (w ≤ 8192) × (window .r ≤ 15) × (window .s ≤ 15) × (ringSize w window ≤ length (now sums)) × (w ≤ length (now dst)) × (by ≡ reciprocalOf (Model.area (window .r) (window .s))) × ((v : ℕ) × (lower ≡ rowStart w window (v + (2 * window .s + 1))) × ((u : ℕ) → u < w → cornersAt (now sums) w window u v ≤ 255 * Model.area (window .r) (window .s))) ⌝ }
-    ensures { λ _. ⌜ ((v : ℕ) → lower ≡ rowStart w window (v + (2 * window .s + 1)) → now (dst .exit) ≡ tabulate (λ u. meanOf (cornersAt (now (sums .entry)) w window u v) (Model.area (window .r) (window .s))) w ++ drop w (now (dst .entry))) ⌝ }
+    ensures { λ _. ⌜ ((v : ℕ) → lower ≡ rowStart w window (v + (2 * window .s + 1)) → now (dst .exit) ≡ tabulate (λ u. nearest (cornersAt (now (sums .entry)) w window u v) (Model.area (window .r) (window .s))) w ++ drop w (now (dst .entry))) ⌝ }
 {
     let n = area(window);
     let across = 2 * window.r + 1;

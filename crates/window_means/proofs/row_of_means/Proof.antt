@@ -27,14 +27,7 @@ next-start-requires c κs =
     let p = c .before .before .before .before .pre in
     (p .0, p .1, p .2, (p .6 .0 + (2 * c .before .before .before .before .args .window .s + 1), p .6 .1))
 
-mul-mean-row : tie.Need-mul-mean-row
-mul-mean-row c =
-    let a = c .before .before .before .before .before .args in
-    let p = c .before .before .before .before .before .pre in
-    let v = p .6 .0 in
-    let eu = c .next-start .ensures (v + (2 * a .window .s + 1)) (p .6 .1) in
-    record { fits = omega (arith, upper-fits (a .w) (a .window) v (a .lower) _ (p .6 .1) eu (p .3)) }
-
+-- the upper edge lies in the sums
 sub-mean-row : tie.Need-sub-mean-row
 sub-mean-row c =
     let a = c .before .before .before .before .before .args in
@@ -43,25 +36,16 @@ sub-mean-row c =
     let eu = c .next-start .ensures (v + (2 * a .window .s + 1)) (p .6 .1) in
     omega (arith, upper-fits (a .w) (a .window) v (a .lower) _ (p .6 .1) eu (p .3))
 
+mul-mean-row : tie.Need-mul-mean-row
+mul-mean-row c = record { fits = omega (arith, sub-mean-row c) }
+
 part-mean-row-start : tie.Need-part-mean-row-start
-part-mean-row-start c =
-    let a = c .before .before .before .before .before .args in
-    let p = c .before .before .before .before .before .pre in
-    let v = p .6 .0 in
-    let eu = c .next-start .ensures (v + (2 * a .window .s + 1)) (p .6 .1) in
-    omega (arith, upper-fits (a .w) (a .window) v (a .lower) _ (p .6 .1) eu (p .3))
+part-mean-row-start c = sub-mean-row c
 
 part-mean-row-end : tie.Need-part-mean-row-end
 part-mean-row-end c = search needs
 
-mul-mean-row-2 : tie.Need-mul-mean-row-2
-mul-mean-row-2 c =
-    let a = c .before .before .before .before .before .before .args in
-    let p = c .before .before .before .before .before .before .pre in
-    let v = p .6 .0 in
-    let eu = c .before .next-start .ensures (v + (2 * a .window .s + 1)) (p .6 .1) in
-    record { fits = omega (arith, lower-fits (a .w) (a .window) v (a .lower) _ (p .6 .1) eu (p .3)) }
-
+-- and so does the lower one
 sub-mean-row-2 : tie.Need-sub-mean-row-2
 sub-mean-row-2 c =
     let a = c .before .before .before .before .before .before .args in
@@ -70,13 +54,11 @@ sub-mean-row-2 c =
     let eu = c .before .next-start .ensures (v + (2 * a .window .s + 1)) (p .6 .1) in
     omega (arith, lower-fits (a .w) (a .window) v (a .lower) _ (p .6 .1) eu (p .3))
 
+mul-mean-row-2 : tie.Need-mul-mean-row-2
+mul-mean-row-2 c = record { fits = omega (arith, sub-mean-row-2 c) }
+
 part-mean-row-start-2 : tie.Need-part-mean-row-start-2
-part-mean-row-start-2 c =
-    let a = c .before .before .before .before .before .before .args in
-    let p = c .before .before .before .before .before .before .pre in
-    let v = p .6 .0 in
-    let eu = c .before .next-start .ensures (v + (2 * a .window .s + 1)) (p .6 .1) in
-    omega (arith, lower-fits (a .w) (a .window) v (a .lower) _ (p .6 .1) eu (p .3))
+part-mean-row-start-2 c = sub-mean-row-2 c
 
 part-mean-row-end-2 : tie.Need-part-mean-row-end-2
 part-mean-row-end-2 c = search needs
