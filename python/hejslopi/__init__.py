@@ -4,15 +4,15 @@
     recipe = hejslopi.recipe([{"kind": "binomial", "across": 1, "down": 1, "border": "nearest"}])
     picture, T = hejslopi.filter_file(open("still.pgm", "rb").read(), recipe)
 
-Nine calls: `read_still`, `write_still`, `read_recipe`, `filter_plane`, `filter_file`, `movement`, and the `add`, `remove` and `mean` of a `Background`, which keeps
-stills and gives their mean. One that cannot be done raises `Refusal`, with the number in `.number` and its meaning as the text. `recipe` makes a recipe's bytes of a
+Ten calls: `read_still`, `write_still`, `read_recipe`, `needs`, `filter_plane`, `filter_file`, `movement`, and the `add`, `remove` and `mean` of a `Background`, which
+keeps stills and gives their mean. One that cannot be done raises `Refusal`, with the number in `.number` and its meaning as the text. `recipe` makes a recipe's bytes of a
 description, `describe` the reverse, `explain` says what a recipe does, and `movement_picture` shows where something has moved.
 
 The library is made once by `rt staticlib capi` at the top of the repository, and this package makes a shared object of it with the machine's cc, beside
 it. HEJSLOPI_LIB_DIR may name another folder of libcapi.a.
 """
 from .background import Background, Mean
-from .calls import ARCHIVE, PANEL, FilteredFile, FilteredPlane, Limits, Recipe, Still, filter_file, filter_plane, read_recipe, read_still, sums_needed, write_still
+from .calls import ARCHIVE, PANEL, FilteredFile, FilteredPlane, Limits, Needs, Recipe, Still, filter_file, filter_plane, needs, read_recipe, read_still, write_still
 from .describing import describe
 from .descriptions import recipe
 from .explaining import explain
@@ -26,6 +26,6 @@ from .version import VERSION
 __version__ = VERSION
 
 __all__ = [
-    "ARCHIVE", "Background", "FilteredFile", "FilteredPlane", "LibraryError", "Limits", "MEANINGS", "Mean", "Mistake", "Movement", "PANEL", "Recipe", "Refusal", "Still",
-    "describe", "explain", "filter_file", "filter_plane", "movement", "movement_picture", "read_recipe", "read_still", "recipe", "sums_needed", "write_still",
+    "ARCHIVE", "Background", "FilteredFile", "FilteredPlane", "LibraryError", "Limits", "MEANINGS", "Mean", "Mistake", "Movement", "Needs", "PANEL", "Recipe", "Refusal",
+    "Still", "describe", "explain", "filter_file", "filter_plane", "movement", "movement_picture", "needs", "read_recipe", "read_still", "recipe", "write_still",
 ]

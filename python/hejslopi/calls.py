@@ -1,4 +1,4 @@
-"""The five calls on stills and recipes. Each takes bytes-like objects only, and raises `Refusal` where the library refuses; nothing is kept between calls."""
+"""The six calls on stills and recipes. Each takes bytes-like objects only, and raises `Refusal` where the library refuses; nothing is kept between calls."""
 from __future__ import annotations
 
 import ctypes
@@ -9,7 +9,6 @@ from . import faults
 from .library import call
 from .messages import found, shown
 from .refusals import OF_RECIPES, Refusal
-from .stage_bytes import read_stages
 
 BytesLike = Union[bytes, bytearray, memoryview]
 
@@ -29,6 +28,15 @@ class Still(NamedTuple):
 class Recipe(NamedTuple):
     """How many stages a recipe has, and its tolerance T in 65,536ths of a grey level."""
     stages: int
+    tolerance: int
+
+
+class Needs(NamedTuple):
+    """How many work bytes, row values and sums a run is lent, how many bytes it writes, and its tolerance T in 65,536ths of a grey level."""
+    work: int
+    rows: int
+    sums: int
+    out: int
     tolerance: int
 
 
@@ -125,26 +133,15 @@ def are_sides(width: int, height: int) -> bool:
     return 1 <= width <= MOST_SIDE and 1 <= height <= MOST_SIDE
 
 
-def file_length(width: int, height: int, channels: int) -> int:
-    """How many bytes the header and the raster of such a still have."""
-    return len("P5\n%d %d\n255\n" % (width, height)) + width * height * channels
+def grey_header(width: int, height: int) -> bytes:
+    """The header of a still of one channel. That of three is as long."""
+    return b"P5\n%d %d\n255\n" % (width, height)
 
 
-def sums_needed(recipe: BytesLike, width: int, height: int) -> int:
-    """How many sums the box stages of an accepted recipe need: those of the one that holds most, or 0. The height does not matter, and stays for those who give it."""
-    need = 0
-    for stage in read_stages(taken("recipe", recipe)):
-        if not stage.whole:
-            raise ValueError("stage %d cannot be followed here, so how many sums it needs is not known" % stage.number)
-        if stage.kind == "box":
-            need = max(need, int((width + 2 * stage.one("radius", "across") + 1) * (2 * stage.one("radius", "down") + 2)))
-    return need
-
-
-def lent(recipes: Sequence[bytes], width: int, height: int) -> Tuple[Any, Any, Any]:
-    """Work bytes, row values and sums, just as many as each of these accepted recipes needs for such a picture."""
-    sums = max((sums_needed(recipe, width, height) for recipe in recipes), default=0)
-    return room(2 * width * height), (ctypes.c_int32 * (width * (height + 30)))(), (ctypes.c_uint32 * sums)()
+def lent(*needed: Needs) -> Tuple[Any, Any, Any]:
+    """Work bytes, row values and sums, just as many as each of these needs: none where nothing is named."""
+    work, rows, sums = (max((lengths[i] for lengths in needed), default=0) for i in range(3))
+    return room(work), (ctypes.c_int32 * rows)(), (ctypes.c_uint32 * sums)()
 
 
 def done(number: int, recipe: bytes = b"", still: bytes = b"") -> None:
@@ -172,7 +169,7 @@ def write_still(width: int, height: int, channels: int, raster: BytesLike) -> by
     raster, result = taken("raster", raster), results(1)
     # What is going to be refused for another reason is lent nothing.
     right = are_sides(width, height) and channels in (1, 3) and len(raster) == width * height * channels
-    out = room(file_length(width, height, channels) if right else 0)
+    out = room(len(grey_header(width, height)) + width * height * channels if right else 0)
     number = call("hejslopi_write_still", width, height, channels, raster, out, result)
     if number:
         raise Refusal(number, "found a picture of %s by %s, channels: %s, samples: %d" % (*given, len(raster)))
@@ -186,6 +183,19 @@ def read_recipe(recipe: BytesLike) -> Recipe:
     return Recipe(*result)
 
 
+def needs(still: BytesLike, recipe: BytesLike) -> Needs:
+    """What a still and a recipe need, without filtering: the length of each buffer that is lent to a run, how many bytes it writes, and its T.
+
+        work, rows, sums, out, T = hejslopi.needs(still, recipe)
+
+    Of the still only the header is looked at: a raster that is short, long or missing does not matter. A still that `filter_file` takes needs just these, and comes
+    out with just this T and length.
+    """
+    still, recipe, result = taken("still", still), taken("recipe", recipe), results(5)
+    done(call("hejslopi_needs", recipe, still, result), recipe, still)
+    return Needs(*result)
+
+
 def filter_plane(plane: BytesLike, width: int, height: int, recipe: BytesLike) -> FilteredPlane:
     """A plane of width times height samples, row by row, filtered by a recipe of one stage."""
     given = shown(width), shown(height)
@@ -193,8 +203,10 @@ def filter_plane(plane: BytesLike, width: int, height: int, recipe: BytesLike) -
     width, height = size("width", width), size("height", height)
     stages = read_recipe(recipe).stages
     right = stages == 1 and are_sides(width, height) and len(plane) == width * height
+    # What is going to be refused for another reason is lent nothing. A plane needs what a still of its size does, and no room for a header.
+    buffers = lent(needs(grey_header(width, height), recipe)) if right else lent()
     out, result = room(width * height if right else 0), results(1)
-    number = call("hejslopi_filter_plane", recipe, width, height, plane, *(lent([recipe], width, height) if right else lent([], 0, 0)), out, result)
+    number = call("hejslopi_filter_plane", recipe, width, height, plane, *buffers, out, result)
     if number:
         raise Refusal(number, "found stages: %d, a plane of %s by %s, samples: %d" % (stages, *given, len(plane)))
     return FilteredPlane(bytes(out), result[0])
@@ -219,12 +231,12 @@ def filter_file(still: BytesLike, recipe: BytesLike, limits: Sequence[int] = ARC
     still, recipe, most = taken("still", still), taken("recipe", recipe), limits_for(limits)
     run = "hejslopi_filter_file_limited", recipe, still, *most
     # Room is tested last, so a call that is lent nothing gives any other refusal there is.
-    number = call(*run, *lent([], 0, 0), room(0), results(5))
+    number = call(*run, *lent(), room(0), results(5))
     if number in (STAGE_LIMIT, SAMPLE_LIMIT):
         raise over_limits(number, recipe, still, most)
     if number != ROOM:
         done(number, recipe, still)
-    width, height, channels, _ = read_still(still)
-    out, result = room(file_length(width, height, channels)), results(5)
-    done(call(*run, *lent([recipe], width, height), out, result), recipe, still)
+    needed = needs(still, recipe)
+    out, result = room(needed.out), results(5)
+    done(call(*run, *lent(needed), out, result), recipe, still)
     return FilteredFile(ctypes.string_at(out, result[4]), result[3])

@@ -1,4 +1,4 @@
-"""The command `hejslopi`: recipes made, explained and described, stills filtered by them, and the movement between two. `STATUSES` says how it ends."""
+"""The command `hejslopi`: recipes made, explained and described, stills filtered by them, what that needs, and the movement between two. `STATUSES` says how it ends."""
 from __future__ import annotations
 
 import json
@@ -77,6 +77,15 @@ def count_movement(words: List[str], options: Options) -> int:
     return DONE
 
 
+def show_needs(words: List[str], options: Options) -> int:
+    still, recipe = words
+    data = files.read(recipe, files.MOST_RECIPE)
+    with about(still, recipe):
+        needed = calls.needs(files.read(still, files.MOST_STILL), data)
+    say("work %d rows %d sums %d out %d T %d" % needed)
+    return DONE
+
+
 def explain(words: List[str], options: Options) -> int:
     with about(words[0]):
         explained = explaining.explain(files.read(words[0], files.MOST_RECIPE))
@@ -123,6 +132,10 @@ taps      offsets from -15 to 15; across also left, here, right; down also up, h
 Filters a still, a P5 or P6 file of up to 8,192 by 8,192, into OUT and prints T, in 65,536ths of a grey level.
 With --into, filters each STILL into a file of the same name in FOLDER, which is made if it is missing. A still that is refused does not stop the others.
 A file that was there before is replaced as a whole, or is left as it was.""", filter_stills),
+    "needs": Word(("needs STILL RECIPE",), 2, (), """\
+Prints `work A rows B sums C out D T E`: what a program has to lend to filter a still by a recipe through the library (so many work bytes, row values of four bytes
+each, sums of four bytes each), how many bytes the filtered still has, and its T, in 65,536ths of a grey level. Nothing is filtered. Of the still only the header is
+looked at: what follows may be short, long or missing.""", show_needs),
     "movement": Word(("movement A B RECIPE LIMIT [--picture OUT]",), 4, ("--picture=",), """\
 Filters two stills of one size by a recipe and counts the movement between them under a limit of 0 to 255 grey levels, over all samples of all channels. Prints
 `moved M still S open O T T1 T2`: how many samples have surely moved, are surely still and are open, and the T of each still, in 65,536ths of a grey level.

@@ -3,7 +3,7 @@ from __future__ import annotations
 
 from typing import NamedTuple, Tuple
 
-from .calls import ROOM, BytesLike, file_length, lent, limit_for, read_recipe, read_still, results, room, taken
+from .calls import ROOM, BytesLike, lent, limit_for, needs, read_recipe, read_still, results, room, taken
 from .library import call
 from .messages import shown
 from .refusals import Refusal
@@ -52,13 +52,12 @@ def movement(still1: BytesLike, recipe1: BytesLike, still2: BytesLike, recipe2: 
         return Refusal(number, *at_fault(number, still1, recipe1, still2, recipe2, limit))
 
     # Room is tested last, so a call that is lent nothing gives any other refusal there is.
-    number = call("hejslopi_movement", *runs, *lent([], 0, 0), room(0), room(0), results(6))
+    number = call("hejslopi_movement", *runs, *lent(), room(0), room(0), results(6))
     if number != ROOM:
         raise refused(number)
-    width, height, channels, _ = read_still(still1)
-    length = file_length(width, height, channels)
-    out1, out2, result = room(length), room(length), results(6)
-    number = call("hejslopi_movement", *runs, *lent([recipe1, recipe2], width, height), out1, out2, result)
+    first, second = needs(still1, recipe1), needs(still2, recipe2)
+    out1, out2, result = room(first.out), room(second.out), results(6)
+    number = call("hejslopi_movement", *runs, *lent(first, second), out1, out2, result)
     if number:
         raise refused(number)
     return Movement(*result[:5], bytes(out1), bytes(out2))

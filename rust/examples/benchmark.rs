@@ -134,7 +134,7 @@ fn named((w, h): Size) -> String {
 
 /// The library's time for a recipe of one stage on a plane, and its samples.
 fn on_plane(recipe: &[u8], (w, h): Size, plane: &[u8], span: Duration) -> (Duration, Vec<u8>) {
-    let mut room = hejslopi::Room::new(hejslopi::needs(recipe, w, h).unwrap());
+    let mut room = hejslopi::Room::new(hejslopi::plane_needs(recipe, w, h).unwrap());
     let mut out = vec![0; w * h];
     let time = best_for(span, || {
         hejslopi::filter_plane_into(recipe, w, h, plane, room.lend(), &mut out).unwrap();
@@ -143,8 +143,8 @@ fn on_plane(recipe: &[u8], (w, h): Size, plane: &[u8], span: Duration) -> (Durat
 }
 
 /// The library's time for any recipe on a file, and the file that it writes.
-fn on_file(recipe: &[u8], (w, h): Size, still: &[u8]) -> (Duration, Vec<u8>) {
-    let mut room = hejslopi::Room::new(hejslopi::needs(recipe, w, h).unwrap());
+fn on_file(recipe: &[u8], still: &[u8]) -> (Duration, Vec<u8>) {
+    let mut room = hejslopi::Room::new(hejslopi::needs(recipe, still).unwrap());
     let mut out = vec![0; still.len()];
     let time = best(|| {
         hejslopi::filter_file_into(recipe, still, room.lend(), &mut out).unwrap();
@@ -275,7 +275,7 @@ fn stage_row(table: &Table, work: &str, recipe: &[u8], size: Size) {
         on_plane(recipe, size, &plane, LONG)
     } else {
         let still = hejslopi::write_still(w, h, 1, &plane).unwrap();
-        on_file(recipe, size, &still)
+        on_file(recipe, &still)
     };
     // the plain reading sorts each window of a rank and adds up each window of a box, which takes long
     let short = match work {
@@ -296,7 +296,7 @@ fn file_row(table: &Table, size: Size) {
     let (w, h) = size;
     let recipe = [1, 3, 1, 0, 1, 1];
     let still = hejslopi::write_still(w, h, 1, &picture(w, h)).unwrap();
-    let (library, out) = on_file(&recipe, size, &still);
+    let (library, out) = on_file(&recipe, &still);
     let plain = best(|| {
         let file = reference::filter_file(&recipe, &still, PLENTY).unwrap().2;
         assert!(file == out);
@@ -393,7 +393,7 @@ impl<'a> Pair<'a> {
         let stills = rasters.map(|raster| hejslopi::write_still(w, h, 1, &raster).unwrap());
         Pair {
             recipe,
-            room: hejslopi::Room::new(hejslopi::needs(recipe, w, h).unwrap()),
+            room: hejslopi::Room::new(hejslopi::needs(recipe, &stills[0]).unwrap()),
             outs: stills.clone(),
             stills,
         }

@@ -1,6 +1,6 @@
 //! Netpbm stills (P5, P6) filtered by a recipe, the movement between two of them, and the mean of many.
 //!
-//! Nine calls: [`read_still`], [`write_still`], [`read_recipe`], [`filter_plane`], [`filter_file`], [`movement`], and three on a
+//! Ten calls: [`read_still`], [`write_still`], [`read_recipe`], [`needs`], [`filter_plane`], [`filter_file`], [`movement`], and three on a
 //! [`Background`], which keeps stills and gives their mean. [`filter_file_limited`] filters a file for a caller with [`Limits`]. Those that write have a form `.._into` that takes lent buffers and
 //! allocates nothing ([`remove_still_from`] is that of a removal). A [`Refusal`] says why a call did nothing, and [`faulty_stage`]
 //! which stage of a recipe is to blame.
@@ -18,6 +18,7 @@ mod background;
 mod fault;
 mod limits;
 mod movement;
+mod needs;
 pub mod raw;
 mod refusal;
 mod room;
@@ -27,9 +28,10 @@ pub use background::{Background, Held, Mean, MeanPicture, MOST_STILLS};
 pub use fault::faulty_stage;
 pub use limits::{filter_file_limited, filter_file_limited_into, Limits};
 pub use movement::{movement, movement_into, Counts, Movement};
+pub use needs::{needs, plane_needs, Needs};
 pub use refusal::Refusal;
 use room::zeros;
-pub use room::{background_needs, file_need, needs, BackgroundNeeds, Lent, Needs, Room};
+pub use room::{background_needs, file_need, BackgroundNeeds, Lent, Room};
 
 /// What a still's header says, and at which byte its raster begins.
 #[derive(Clone, Copy, Debug, PartialEq, Eq)]
@@ -94,6 +96,14 @@ fn answer<T>(number: u32, values: T) -> Result<T, Refusal> {
     }
 }
 
+/// Whether a call that was lent nothing lacks room, and nothing else.
+fn ready<T>(answer: Result<T, Refusal>) -> Result<(), Refusal> {
+    match answer {
+        Ok(_) | Err(Refusal::Room) => Ok(()),
+        Err(refusal) => Err(refusal),
+    }
+}
+
 /// Read a whole P5 or P6 file.
 pub fn read_still(bytes: &[u8]) -> Result<Still, Refusal> {
     let mut result = [0; 4];
@@ -145,7 +155,7 @@ pub fn read_recipe(bytes: &[u8]) -> Result<Recipe, Refusal> {
 }
 
 /// Filter a plane, with a single stage, into the first `width * height` bytes of `out`: T.
-/// [`needs`] says how much must be lent.
+/// [`plane_needs`] says how much must be lent.
 pub fn filter_plane_into(
     recipe: &[u8],
     width: usize,
@@ -166,16 +176,15 @@ pub fn filter_plane(
     height: usize,
     plane: &[u8],
 ) -> Result<Plane, Refusal> {
-    if read_recipe(recipe)?.stages != 1 {
-        return Err(Refusal::Count);
-    }
-    let mut room = Room::new(needs(recipe, width, height)?);
-    let mut samples = zeros(width * height);
-    let tolerance = filter_plane_into(recipe, width, height, plane, room.lend(), &mut samples)?;
+    let run = |lent, out: &mut [u8]| filter_plane_into(recipe, width, height, plane, lent, out);
+    ready(run(Lent::nothing(), &mut []))?;
+    let needs = plane_needs(recipe, width, height)?;
+    let (mut room, mut samples) = (Room::new(needs), zeros(needs.out));
+    let tolerance = run(room.lend(), &mut samples)?;
     Ok(Plane { tolerance, samples })
 }
 
-/// Filter a whole P5 or P6 file into the front of `out`. [`needs`] and [`file_need`] say how much must be lent.
+/// Filter a whole P5 or P6 file into the front of `out`. [`needs`] says how much must be lent.
 pub fn filter_file_into(
     recipe: &[u8],
     still: &[u8],

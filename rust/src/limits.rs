@@ -1,5 +1,5 @@
 use crate::room::zeros;
-use crate::{answer, file_need, needs, raw, read_still, File, Lent, Picture, Refusal, Room};
+use crate::{answer, needs, raw, ready, File, Lent, Picture, Refusal, Room};
 
 /// How much a caller takes: how many stages a recipe may have, and how many samples a plane of a still (`width * height`, however many channels there are).
 #[derive(Clone, Copy, Debug, PartialEq, Eq)]
@@ -40,20 +40,11 @@ pub fn filter_file_limited_into(
 /// [`filter_file`](crate::filter_file) for a caller with limits: what is accepted gives the same file. More stages are refused with
 /// [`Refusal::StageLimit`], more samples with [`Refusal::SampleLimit`].
 pub fn filter_file_limited(recipe: &[u8], still: &[u8], limits: Limits) -> Result<File, Refusal> {
-    // Room is tested last, so a call that is lent nothing gives any other refusal there is.
-    let nothing = Lent {
-        work: &mut [],
-        rows: &mut [],
-        sums: &mut [],
-    };
-    match filter_file_limited_into(recipe, still, limits, nothing, &mut []) {
-        Err(Refusal::Room) | Ok(_) => {}
-        Err(refusal) => return Err(refusal),
-    }
-    let picture = read_still(still)?;
-    let mut room = Room::new(needs(recipe, picture.width, picture.height)?);
-    let mut bytes = zeros(file_need(picture.width, picture.height, picture.channels)?);
-    let done = filter_file_limited_into(recipe, still, limits, room.lend(), &mut bytes)?;
+    let run = |lent, out: &mut [u8]| filter_file_limited_into(recipe, still, limits, lent, out);
+    ready(run(Lent::nothing(), &mut []))?;
+    let needs = needs(recipe, still)?;
+    let (mut room, mut bytes) = (Room::new(needs), zeros(needs.out));
+    let done = run(room.lend(), &mut bytes)?;
     bytes.truncate(done.length);
     Ok(File {
         width: done.width,

@@ -1,6 +1,6 @@
 //! The movement between two stills.
 use crate::room::zeros;
-use crate::{answer, file_need, needs, raw, read_still, Lent, Refusal, Room};
+use crate::{answer, needs, raw, ready, Lent, Refusal, Room};
 
 /// How many samples have surely moved, are surely still, and are open; and the tolerance of each still's written samples, in
 /// 65,536ths of a grey level. Both filtered files have `length` bytes.
@@ -27,7 +27,7 @@ pub struct Movement {
 }
 
 /// Filter two whole P5 or P6 files of one size into the front of an output each, and count the movement between them: see
-/// [`movement`]. [`needs`] and [`file_need`] say how much must be lent, [`crate::Needs::max`] what is enough for both recipes.
+/// [`movement`]. [`needs`] says how much must be lent to each, [`crate::Needs::max`] what is enough for both.
 pub fn movement_into(
     recipe1: &[u8],
     still1: &[u8],
@@ -74,21 +74,10 @@ pub fn movement(
     limit: u64,
 ) -> Result<Movement, Refusal> {
     let count = |lent, outs| movement_into(recipe1, still1, recipe2, still2, limit, lent, outs);
-    let nothing = Lent {
-        work: &mut [],
-        rows: &mut [],
-        sums: &mut [],
-    };
-    // Room is tested last, so a call that is lent nothing gives any other refusal there is.
-    match count(nothing, [&mut [], &mut []]) {
-        Ok(_) | Err(Refusal::Room) => {}
-        Err(refusal) => return Err(refusal),
-    }
-    let size = read_still(still1)?;
-    let [first, second] = [recipe1, recipe2].map(|recipe| needs(recipe, size.width, size.height));
-    let mut room = Room::new(first?.max(second?));
-    let file = file_need(size.width, size.height, size.channels)?;
-    let (mut picture1, mut picture2) = (zeros(file), zeros(file));
+    ready(count(Lent::nothing(), [&mut [], &mut []]))?;
+    let (first, second) = (needs(recipe1, still1)?, needs(recipe2, still2)?);
+    let mut room = Room::new(first.max(second));
+    let (mut picture1, mut picture2) = (zeros(first.out), zeros(second.out));
     let counts = count(room.lend(), [&mut picture1, &mut picture2])?;
     Ok(Movement {
         moved: counts.moved,

@@ -17,6 +17,14 @@ extern "C" {
 
     pub fn hejslopi_read_recipe(bytes: *const u8, bytes_len: usize, result: *mut [u64; 2]) -> u32;
 
+    pub fn hejslopi_needs(
+        recipe: *const u8,
+        recipe_len: usize,
+        still: *const u8,
+        still_len: usize,
+        result: *mut [u64; 5],
+    ) -> u32;
+
     pub fn hejslopi_filter_plane(
         recipe: *const u8,
         recipe_len: usize,
@@ -148,6 +156,11 @@ pub fn write_still(
 
 pub fn read_recipe(bytes: &[u8], result: &mut [u64; 2]) -> u32 {
     unsafe { hejslopi_read_recipe(bytes.as_ptr(), bytes.len(), result) }
+}
+
+pub fn needs(recipe: &[u8], still: &[u8], result: &mut [u64; 5]) -> u32 {
+    let (r, s) = (recipe.as_ptr(), still.as_ptr());
+    unsafe { hejslopi_needs(r, recipe.len(), s, still.len(), result) }
 }
 
 /// Calls a filtering function: what it reads first, then the lent buffers and the outputs.

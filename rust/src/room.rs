@@ -1,23 +1,4 @@
-use crate::{read_recipe, Refusal, MOST_STILLS};
-
-/// How many elements must be lent: work bytes, row values, sums.
-#[derive(Clone, Copy, Debug, PartialEq, Eq)]
-pub struct Needs {
-    pub work: usize,
-    pub rows: usize,
-    pub sums: usize,
-}
-
-impl Needs {
-    /// The larger of each: enough for both.
-    pub fn max(self, other: Needs) -> Needs {
-        Needs {
-            work: self.work.max(other.work),
-            rows: self.rows.max(other.rows),
-            sums: self.sums.max(other.sums),
-        }
-    }
-}
+use crate::{Needs, Refusal, MOST_STILLS};
 
 /// Buffers lent to a call. Nothing is promised of them once it has filtered.
 pub struct Lent<'a> {
@@ -31,6 +12,17 @@ pub struct Lent<'a> {
 pub struct BackgroundNeeds {
     pub rasters: usize,
     pub labels: usize,
+}
+
+impl Lent<'_> {
+    /// Nothing at all. Room is tested last, so a call that is lent nothing gives any other refusal there is.
+    pub fn nothing() -> Lent<'static> {
+        Lent {
+            work: &mut [],
+            rows: &mut [],
+            sums: &mut [],
+        }
+    }
 }
 
 /// Allocated buffers, to be lent to any number of calls. One that there was no memory for is empty: a call that needs it refuses with
@@ -76,39 +68,6 @@ fn sides(width: usize, height: usize) -> Result<(), Refusal> {
     } else {
         Err(Refusal::Side)
     }
-}
-
-/// What must be lent to filter a picture of this size by this recipe: `2 W H` bytes of work, `W (H + 30)` row values, and sums
-/// for the box stage that holds most, `(W + 2r + 1)(2s + 2)` of them.
-pub fn needs(recipe: &[u8], width: usize, height: usize) -> Result<Needs, Refusal> {
-    let stages = read_recipe(recipe)?.stages;
-    sides(width, height)?;
-    let mut sums = 0;
-    let mut at = 1;
-    for _ in 0..stages {
-        let field = |k: usize| recipe[at + k] as usize;
-        // asked for by kind only: an outline may end the recipe before these bytes
-        let taps = || field(3) + field(4);
-        at += match field(0) {
-            1 => 9 + 3 * taps(),
-            2 => 5 + 5 * taps(),
-            3 => 5,
-            4 => {
-                sums = sums.max((width + 2 * field(3) + 1) * (2 * field(4) + 2));
-                5
-            }
-            5 => 7,
-            6 => 3,
-            kind => panic!(
-                "the library accepts stages of kind {kind}, and `needs` has no length for them"
-            ),
-        };
-    }
-    Ok(Needs {
-        work: 2 * width * height,
-        rows: width * (height + 30),
-        sums,
-    })
 }
 
 fn picture(width: usize, height: usize, channels: usize) -> Result<(), Refusal> {

@@ -41,6 +41,18 @@ pub enum File {
     },
 }
 
+// What must be lent to filter a still: the lengths of the work bytes, the row values, the sums and the output; and T.
+pub enum Needs {
+    Refused(u8),
+    Lengths {
+        works: usize,
+        rows: usize,
+        sums: usize,
+        out: usize,
+        tolerance: u64,
+    },
+}
+
 // What a background holds: how many stills, and the size of each. Of an empty one no size is looked at.
 pub struct Held {
     pub count: usize,

@@ -11,7 +11,8 @@ use Rattle.model.specs.Outline.{largest}
 use Rattle.text.specs.Text.{isSpace, gap, isDigit, digits, valueFrom, value}
 use Rattle.header_reader.specs.Header.{fieldAfter, field, headerOf, heightField, maximumField, header}
 use Rattle.picture_sizes.specs.PictureSize.{isSide}
-use Rattle.still_reader.specs.Read.{channelsOf, headerTests, magicTest, pictureOf, stillOf}
+use Rattle.still_reader.specs.Head.{channelsOf, magicTest, headerTests, announced, headOf}
+use Rattle.still_reader.specs.Read.{stillOf}
 use Rattle.answers.specs.declared.Still.the-variants as Still
 use Rattle.answers.specs.declared.Held.{Held}
 use Rattle.answers.specs.declared.Mean.{Mean}
@@ -125,7 +126,7 @@ rows =
 
 -- every definition that an example runs through, opened by one name
 opened : Unit {0}
-unfolding sum tabulate largest isSpace gap isDigit digits valueFrom value fieldAfter field headerOf heightField maximumField header isSide channelsOf headerTests magicTest pictureOf stillOf position present roomFor smallNumbers heldRoom suits addTests addition removeTests without removal meanOf samplesAt meanRaster meanTolerance meanTests meanAnswer slot memberIn backgroundIn outcome history except survivors commonDenominator exactTotal row adding add remove refusal answered mean one two three many holding listed still come-and-gone part parts
+unfolding sum tabulate largest isSpace gap isDigit digits valueFrom value fieldAfter field headerOf heightField maximumField header isSide channelsOf magicTest headerTests announced headOf stillOf position present roomFor smallNumbers heldRoom suits addTests addition removeTests without removal meanOf samplesAt meanRaster meanTolerance meanTests meanAnswer slot memberIn backgroundIn outcome history except survivors commonDenominator exactTotal row adding add remove refusal answered mean one two three many holding listed still come-and-gone part parts
 opened = tt
 
 -- THE WORKED EXAMPLES HOLD, by computation

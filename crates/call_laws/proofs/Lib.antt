@@ -3,3 +3,4 @@ pub mod OneStage
 pub mod Fits
 pub mod NoZero
 pub mod Back
+pub mod JustLent

@@ -1,5 +1,5 @@
--- NO REFUSAL'S NUMBER IS 0, of none of the nine calls: so a C caller who gets 0 has the answer. And 28 and 29 come of a caller's limits alone, never of the archive's. Assumes nothing.
-use Prim.Native.Nat.{ℕ, zero, suc, _+_, _≤_}
+-- NO REFUSAL'S NUMBER IS 0, of none of the ten calls: so a C caller who gets 0 has the answer. And 28 and 29 come of a caller's limits alone, never of the archive's. Assumes nothing.
+use Prim.Native.Nat.{ℕ, zero, suc, _+_, _-_, _*_, _≤_}
 use native.Mathlib.Omega.{arith}
 use mathlib.Core.Path.{_≡_, refl, sym, _∙_}
 use mathlib.Core.Logic.{inl, inr}
@@ -24,6 +24,8 @@ use Rattle.answers.specs.declared.Mean.{Mean}
 use Rattle.answers.specs.declared.Mean.the-variants as Mean
 use Rattle.answers.specs.declared.Movement.{Movement}
 use Rattle.answers.specs.declared.Movement.the-variants as Movement
+use Rattle.answers.specs.declared.Needs.{Needs}
+use Rattle.answers.specs.declared.Needs.the-variants as Needs
 use Rattle.model.specs.Stage.{Stage}
 use Rattle.model.specs.Tolerance.{tolerance}
 use Rattle.recipe_bytes.specs.Bytes.{at, signed8, there}
@@ -35,7 +37,8 @@ use Rattle.recipe_kernels.specs.Kernels.{gainTests, weightedTests}
 use Rattle.recipe_stages.specs.StageBytes.{workTests, stageTests, stageLength}
 use Rattle.recipe.specs.Recipe.{stagesTests, recipeTests, recipeStages, recipeOf}
 use Rattle.header_reader.specs.Header.{Header}
-use Rattle.still_reader.specs.Read.{headerTests, magicTest, pictureOf, stillOf}
+use Rattle.still_reader.specs.Head.{magicTest, headerTests, announced, headOf}
+use Rattle.still_reader.specs.Read.{rasterTests, withRaster, stillOf}
 use Rattle.still_writer.specs.Write.{writeTests, writtenOf}
 use Rattle.room.specs.declared.Lent.{Lent}
 use Rattle.room.specs.Room.{lent, roomTests}
@@ -45,6 +48,7 @@ use Rattle.filter_answers.specs.Limits.{archive, AtMost}
 use Rattle.filter_answers.specs.FileAnswer.{lentTests, fileAnswer}
 use Rattle.filter_answers.proofs.Wider.{LimitedOr}
 use Rattle.filter_answers.proofs.NoLimit.{unlimitedStill, unlimitedPicture, unlimitedFile, no-limit-picture, no-limit-file, archive-itself, limited-file}
+use Rattle.buffer_needs.specs.NeedsAnswer.{headNeeds, needsAnswer}
 use Rattle.program_filter.specs.Program.{programLent, programAnswer}
 use Rattle.movement.specs.Order.{refusalTests, sameSize, inOrder}
 use Rattle.movement_answers.specs.Run.{Run, stages, asked}
@@ -53,7 +57,7 @@ use Rattle.background.specs.Background.{Background, stills, samples}
 use Rattle.background.specs.Change.{Outcome, refused, changed, addTests, additionOf, addition, removeTests, removal}
 use Rattle.background.specs.Mean.{meanTolerance, meanTests, meanAnswer}
 use Rattle.background.specs.Memory.{answerOf}
-use Rattle.told.specs.Numbers.{Told, refusal, values, Tells, stillTold, writtenTold, recipeTold, planeTold, fileTold, changedTold, meanTold, movementTold}
+use Rattle.told.specs.Numbers.{Told, refusal, values, Tells, stillTold, writtenTold, recipeTold, needsTold, planeTold, fileTold, changedTold, meanTold, movementTold}
 use Rattle.capi.specs.Calls.{WritesStill, FiltersPlane, FiltersFile, CountsMovement}
 use Rattle.told_background.specs.Calls.{ChangesBackground, MeansStills}
 use Rattle.call_laws.specs.Success.{Success}
@@ -154,16 +158,24 @@ recipe-numbered b = stages-numbered (at b 0) (drop 1 b)
 
 -- ---- the calls of document 01
 
-picture-number : (c : ℕ) (h : Header) (total n : ℕ) → pictureOf c h total ≡ Still.Refused n → NotOfLimits n
-unfolding pictureOf headerTests
-picture-number c h total n e = refused-number Still.Refused (λ m k f. cc) (headerTests c h _) (Still.Picture _ _ _ _) n refl other e
-  where
-    other : {w h c s : ℕ} → Still.Picture w h c s ≡ Still.Refused n → NotOfLimits n
-    other f = let z : _≡_ {A = ℕ} 0 1 = cc in absurd (omega arith)
+never-refused : {w h c s : ℕ} (n : ℕ) → Still.Picture w h c s ≡ Still.Refused n → NotOfLimits n
+never-refused n f = let z : _≡_ {A = ℕ} 0 1 = cc in absurd (omega arith)
+
+announced-number : (c : ℕ) (h : Header) (n : ℕ) → announced c h ≡ Still.Refused n → NotOfLimits n
+unfolding announced headerTests
+announced-number c h n e = refused-number Still.Refused (λ m k f. cc) (headerTests h) (Still.Picture _ _ _ _) n refl (never-refused n) e
+
+pub read-head-number : (bytes : List ℕ) (n : ℕ) → headOf bytes ≡ Still.Refused n → NotOfLimits n
+unfolding headOf magicTest
+read-head-number bytes n e = refused-number Still.Refused (λ m k f. cc) (magicTest bytes ∷ []) (announced _ _) n refl (announced-number _ _ n) e
+
+raster-number : (total : ℕ) (s : Still) (n : ℕ) → ((k : ℕ) → s ≡ Still.Refused k → NotOfLimits k) → withRaster total s ≡ Still.Refused n → NotOfLimits n
+raster-number total (Still.Refused k) n h e = let d : k ≡ n = cc in rw d at (h k refl)
+raster-number total (Still.Picture W H c start) n h e = refused-number Still.Refused (λ m k f. cc) (rasterTests (W * H * c) (total - start)) (Still.Picture W H c start) n refl (never-refused n) e
 
 pub read-still-number : (bytes : List ℕ) (n : ℕ) → stillOf bytes ≡ Still.Refused n → NotOfLimits n
-unfolding stillOf magicTest
-read-still-number bytes n e = refused-number Still.Refused (λ m k f. cc) (magicTest bytes ∷ []) (pictureOf _ _ _) n refl (picture-number _ _ _ n) e
+unfolding stillOf
+read-still-number bytes n e = raster-number (length bytes) (headOf bytes) n (read-head-number bytes) e
 
 pub write-still-number : (W H c raster room n : ℕ) → writtenOf W H c raster room ≡ Written.Refused n → NotOfLimits n
 unfolding writtenOf writeTests
@@ -226,6 +238,15 @@ unfolding programAnswer
 program-number recipe still n e = archive-number recipe still programLent n e
 
 -- ---- the calls of document 02
+
+head-needs-number : (ts : List Stage) (head : Still) (n : ℕ) → ((k : ℕ) → head ≡ Still.Refused k → NotOfLimits k) → headNeeds ts head ≡ Needs.Refused n → NotOfLimits n
+head-needs-number ts (Still.Refused k) n h e = let d : k ≡ n = cc in rw d at (h k refl)
+head-needs-number ts (Still.Picture W H c start) n h e = let z : _≡_ {A = ℕ} 0 1 = cc in absurd (omega arith)
+
+pub needs-number : (recipe still : List ℕ) (n : ℕ) → needsAnswer recipe still ≡ Needs.Refused n → NotOfLimits n
+unfolding needsAnswer
+needs-number recipe still n e =
+    refused-number Needs.Refused (λ m k f. cc) (recipeTests recipe) (headNeeds (recipeStages recipe) (headOf still)) n (recipe-numbered recipe) (head-needs-number (recipeStages recipe) (headOf still) n (read-head-number still)) e
 
 never-changed : {b : Background} (n : ℕ) → changed b ≡ refused n → NotOfLimits n
 never-changed n f = let z : _≡_ {A = ℕ} 0 1 = cc in absurd (omega arith)
@@ -302,6 +323,10 @@ recipe-told : (a : Recipe) → ((n : ℕ) → a ≡ Recipe.Refused n → NotOfLi
 recipe-told (Recipe.Refused n) h = h n refl .0
 recipe-told (Recipe.Stages S T) h = tt
 
+needs-told : (a : Needs) → ((n : ℕ) → a ≡ Needs.Refused n → NotOfLimits n) → NoZero (needsTold a)
+needs-told (Needs.Refused n) h = h n refl .0
+needs-told (Needs.Lengths works rows sums out T) h = tt
+
 plane-told : (a : Filtered) → ((n : ℕ) → a ≡ Filtered.Refused n → NotOfLimits n) → NoZero (planeTold a)
 plane-told (Filtered.Refused n) h = h n refl .0
 plane-told (Filtered.Tolerance T) h = tt
@@ -336,6 +361,9 @@ module _ {array array′ : List ℕ} {r : ℕ} (returns-0 : r ≡ 0) where
 
   pub read-recipe-success : (recipe : List ℕ) → Tells (recipeTold (recipeOf recipe)) array array′ r → Success (recipeTold (recipeOf recipe)) array′
   read-recipe-success recipe t = succeeds (recipeTold (recipeOf recipe)) (recipe-told (recipeOf recipe) (read-recipe-number recipe)) t returns-0
+
+  pub needs-success : (recipe still : List ℕ) → Tells (needsTold (needsAnswer recipe still)) array array′ r → Success (needsTold (needsAnswer recipe still)) array′
+  needs-success recipe still t = succeeds (needsTold (needsAnswer recipe still)) (needs-told (needsAnswer recipe still) (needs-number recipe still)) t returns-0
 
   module _ (recipe work work′ : List ℕ) (rows rows′ : List ℤ) (sums sums′ out out′ : List ℕ) where
     pub filter-plane-success : (W H : ℕ) (plane : List ℕ) → FiltersPlane recipe W H plane work work′ rows rows′ sums sums′ out out′ array array′ r

@@ -3,11 +3,12 @@ use filter_answers::Limits;
 ghost use lib.ListN.{length};
 ghost use Rattle.still_reader.specs.Read.{stillOf};
 ghost use Rattle.recipe.specs.Recipe.{recipeOf};
+ghost use Rattle.buffer_needs.specs.NeedsAnswer.{needsAnswer};
 ghost use Rattle.filter_answers.specs.Limits.{limits, archive};
 ghost use Rattle.background.specs.Change.{addition, removal};
 ghost use Rattle.background.specs.Memory.{backgroundIn};
 ghost use Rattle.movement_runs.specs.RunsBoth.{runOn};
-ghost use Rattle.told.specs.Numbers.{Tells, stillTold, recipeTold, heldIn};
+ghost use Rattle.told.specs.Numbers.{Tells, stillTold, recipeTold, needsTold, heldIn};
 ghost use Rattle.capi.specs.Calls.{WritesStill, FiltersPlane, FiltersFile, CountsMovement};
 ghost use Rattle.told_background.specs.Calls.{ChangesBackground, MeansStills};
 
@@ -43,6 +44,14 @@ pub extern "C" fn hejslopi_read_recipe(bytes: &[u8], result: &mut [u64; 2]) -> u
     ensures { λ r. ⌜ Tells (recipeTold (recipeOf (now (bytes .entry)))) (now (result .entry)) (now (result .exit)) r ⌝ }
 {
     told::recipe(recipe::read_recipe(bytes), result)
+}
+
+// What must be lent to filter a still, from its header and a recipe: how many work bytes, row values and sums, the output's length, and T.
+#[no_mangle]
+pub extern "C" fn hejslopi_needs(recipe: &[u8], still: &[u8], result: &mut [u64; 5]) -> u32
+    ensures { λ r. ⌜ Tells (needsTold (needsAnswer (now (recipe .entry)) (now (still .entry)))) (now (result .entry)) (now (result .exit)) r ⌝ }
+{
+    told::needs(buffer_needs::needs(recipe, still), result)
 }
 
 // Filter a plane, with a single stage: T.

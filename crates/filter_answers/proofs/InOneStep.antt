@@ -1,9 +1,9 @@
 -- The answer of `filter_file` told in one step, with what is lent tested where the still is read: it is the same. Assumes nothing.
 use Prim.Native.Nat.{ℕ}
 use mathlib.Core.Path.{_≡_, refl, ap, _∙_}
-use mathlib.Core.Bool.{true, false}
 use mathlib.Core.List.{List, [], _∷_, _++_}
 use Rattle.refusals.specs.Refusal.{Test, tested}
+use Rattle.refusals.proofs.Passed.{tested-through}
 use Rattle.model.specs.Stage.{Stage}
 use Rattle.model.specs.Tolerance.{tolerance}
 use Rattle.answers.specs.declared.Still.{Still}
@@ -26,9 +26,7 @@ stillInOneStep m ts l (Still.Picture W H c start) = tested Refused (sampleLimitT
 module _ (ts : List Stage) (l : Lent) where
   -- a refusal stays, so the buffers may be tested before or behind it
   lending-last : (xs : List Test) (a : File) → lending ts l (tested Refused xs a) ≡ tested Refused xs (lending ts l a)
-  lending-last [] a = refl
-  lending-last ((true, n) ∷ xs) a = lending-last xs a
-  lending-last ((false, n) ∷ xs) a = refl
+  lending-last = tested-through Refused Refused (lending ts l) (λ n. refl)
 
   lending-still : (m : Limits) (s : Still) → lending ts l (stillAnswer m (tolerance ts) s) ≡ stillInOneStep m ts l s
   lending-still m (Still.Refused n) = refl

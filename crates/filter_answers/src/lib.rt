@@ -6,12 +6,13 @@ use answers::Still;
 use refusals::Verdict;
 use room::Lent;
 ghost use mathlib.Core.Path.{_≡_};
+ghost use Prim.Native.Nat.{_≤_};
 ghost use Rattle.refusals.specs.Refusal.{verdict};
 ghost use Rattle.refusals.specs.declared.Verdict.the-variants.{Passed};
 ghost use Rattle.still_reader.specs.Read.{stillOf};
 ghost use Rattle.recipe.specs.Recipe.{recipeTests, recipeStages};
 ghost use Rattle.filter_answers.specs.PlaneAnswer.{planeTests, planeAnswer};
-ghost use Rattle.filter_answers.specs.FileAnswer.{stillAnswer, pictureAnswer, Asked, lentTests, fileAnswer};
+ghost use Rattle.filter_answers.specs.FileAnswer.{fileSize, stillAnswer, pictureAnswer, Asked, lentTests, fileAnswer};
 
 // The limits of a caller: how many stages a recipe may have, and how many samples a plane of a still.
 pub struct Limits {
@@ -70,6 +71,15 @@ pub fn plane_answer(bytes: &[u8], w: usize, h: usize, samples: usize, lent: Lent
     }
 }
 
+// How many bytes the file of such a picture has: its header's, and one for each sample.
+pub fn file_size(width: usize, height: usize, channels: usize) -> usize
+    requires { ⌜ (width ≤ 8192) × (height ≤ 8192) × (channels ≤ 3) ⌝ }
+    ensures { λ n. ⌜ n ≡ fileSize width height channels ⌝ }
+{
+    let head = header_writer::header(width, height, channels);
+    head.len + width * height * channels
+}
+
 // The answer to a still by a recipe with this tolerance, whatever is lent.
 fn still_answer(tolerance: u64, still: &[u8], limits: Limits) -> File
     ensures { λ r. ⌜ r ≡ stillAnswer limits tolerance (stillOf (now (still .entry))) ⌝ }
@@ -83,18 +93,15 @@ fn still_answer(tolerance: u64, still: &[u8], limits: Limits) -> File
             channels,
             start: _,
         } => {
-            let size = width * height;
-            if most_samples < size {
+            if most_samples < width * height {
                 return File::Refused(refusals::SAMPLE_LIMIT);
             }
-            let head = header_writer::header(width, height, channels);
-            let len = head.len + size * channels;
             File::Picture {
                 width,
                 height,
                 channels,
                 tolerance,
-                len,
+                len: file_size(width, height, channels),
             }
         }
     }

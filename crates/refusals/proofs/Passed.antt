@@ -46,6 +46,19 @@ module _ {A : Type 0} (refuse : ℕ → A) (answer : A) where
   pub refused-whole : (ts : List Test) {n : ℕ} → verdict ts ≡ Refused n → tested refuse ts answer ≡ refuse n
   refused-whole ts e = ap (λ (l : List Test). tested refuse l answer) (sym (append-nil ts)) ∙ refused-part refuse [] answer ts e
 
+-- what leaves a refusal one may be done before the tests or behind them
+pub tested-through : {A B : Type 0} (refuse : ℕ → A) (refuse′ : ℕ → B) (f : A → B) → ((n : ℕ) → f (refuse n) ≡ refuse′ n)
+    → (ts : List Test) (answer : A) → f (tested refuse ts answer) ≡ tested refuse′ ts (f answer)
+tested-through refuse refuse′ f kept [] answer = refl
+tested-through refuse refuse′ f kept ((true, n) ∷ ts) answer = tested-through refuse refuse′ f kept ts answer
+tested-through refuse refuse′ f kept ((false, n) ∷ ts) answer = kept n
+
+-- tests behind tests
+pub tested-append : {A : Type 0} (refuse : ℕ → A) (xs ys : List Test) (answer : A) → tested refuse (xs ++ ys) answer ≡ tested refuse xs (tested refuse ys answer)
+tested-append refuse [] ys answer = refl
+tested-append refuse ((true, n) ∷ xs) ys answer = tested-append refuse xs ys answer
+tested-append refuse ((false, n) ∷ xs) ys answer = refl
+
 -- an answer that is a refusal was refused by the tests, where what the call gives is none
 pub refused-tests : {A : Type 0} (refuse : ℕ → A) → ((m n : ℕ) → refuse m ≡ refuse n → m ≡ n) → (ts : List Test) (answer : A) {n : ℕ} → ((k : ℕ) → answer ≡ refuse k → ⊥)
     → tested refuse ts answer ≡ refuse n → verdict ts ≡ Refused n

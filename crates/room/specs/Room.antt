@@ -16,15 +16,23 @@ use Rattle.room.specs.declared.Lent.{Lent}
 abbrev pub lent : ℕ → ℕ → ℕ → ℕ → Lent
 lent works rows sums out = record { works = works; rows = rows; sums = sums; out = out }
 
--- what a frame of W by H must be lent to be filtered ('Who causes which refusal'): 2·W·H bytes of work, W·(H+30) row values, as many sums as its box stages
--- need, and `size` bytes of output. These are all the causes of refusal 20
-unfoldable pub roomTests : ℕ → ℕ → List Stage → ℕ → Lent → List Test
-roomTests W H ts size l =
-    (leb (2 * (W * H)) (l .works), Refusal.room)
-    ∷ (leb (W * (H + 30)) (l .rows), Refusal.room)
-    ∷ (leb (sumNeed W ts) (l .sums), Refusal.room)
-    ∷ (leb size (l .out), Refusal.room)
+-- what must be lent to filter a frame of W by H by these stages into `size` bytes ('Who causes which refusal'): 2·W·H bytes of work, W·(H+30) row values, as
+-- many sums as its box stages need, and the bytes of the output
+abbrev pub needs : ℕ → ℕ → List Stage → ℕ → Lent
+needs W H ts size = lent (2 * (W * H)) (W * (H + 30)) (sumNeed W ts) size
+
+-- each lent buffer is at least as long as is needed: what is shorter is refused with 20
+abbrev pub enoughTests : Lent → Lent → List Test
+enoughTests need l =
+    (leb (need .works) (l .works), Refusal.room)
+    ∷ (leb (need .rows) (l .rows), Refusal.room)
+    ∷ (leb (need .sums) (l .sums), Refusal.room)
+    ∷ (leb (need .out) (l .out), Refusal.room)
     ∷ []
+
+-- the tests of what is lent: all causes of refusal 20, by the one definition of needs
+unfoldable pub roomTests : ℕ → ℕ → List Stage → ℕ → Lent → List Test
+roomTests W H ts size l = enoughTests (needs W H ts size) l
 
 -- a work buffer before and after a call: as it was where the call refused (true), and with any content where it filtered
 abbrev pub Kept : {A : Type 0} → Bool → List A → List A → Type 0

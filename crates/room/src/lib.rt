@@ -6,7 +6,7 @@ ghost use Rattle.refusals.specs.Refusal.{verdict};
 ghost use Rattle.refusals.specs.declared.Verdict.the-variants.{Passed};
 ghost use Rattle.recipe.specs.Recipe.{recipeTests, recipeStages};
 ghost use Rattle.table_sizes.specs.Needs.{sumNeed};
-ghost use Rattle.room.specs.Room.{roomTests};
+ghost use Rattle.room.specs.Room.{needs, roomTests};
 
 // How long the lent buffers are: work bytes, row values, sums, output.
 pub struct Lent {
@@ -35,25 +35,35 @@ fn sum_need(bytes: &[u8], w: usize) -> usize
     need
 }
 
+// What must be lent for an output of `size` bytes.
+pub fn needs(recipe: &[u8], w: usize, h: usize, size: usize) -> Lent
+    requires { ⌜ (w ≤ 8192) × (h ≤ 8192) × (verdict (recipeTests (now recipe)) ≡ Passed) ⌝ }
+    ensures { λ r. ⌜ r ≡ needs w h (recipeStages (now (recipe .entry))) size ⌝ }
+{
+    Lent {
+        works: 2 * (w * h),
+        rows: w * (h + 30),
+        sums: sum_need(recipe, w),
+        out: size,
+    }
+}
+
 // The tests of the lent buffers, for an output of `size` bytes.
 pub fn tests(recipe: &[u8], w: usize, h: usize, size: usize, lent: Lent) -> Verdict
     requires { ⌜ (w ≤ 8192) × (h ≤ 8192) × (verdict (recipeTests (now recipe)) ≡ Passed) ⌝ }
     ensures { λ r. ⌜ r ≡ verdict (roomTests w h (recipeStages (now (recipe .entry))) size lent) ⌝ }
 {
-    let works = lent.works;
-    let rows = lent.rows;
-    let sums = lent.sums;
-    let out = lent.out;
-    if works < 2 * (w * h) {
+    let need = needs(recipe, w, h, size);
+    if lent.works < need.works {
         return Verdict::Refused(refusals::ROOM);
     }
-    if rows < w * (h + 30) {
+    if lent.rows < need.rows {
         return Verdict::Refused(refusals::ROOM);
     }
-    if sums < sum_need(recipe, w) {
+    if lent.sums < need.sums {
         return Verdict::Refused(refusals::ROOM);
     }
-    if out < size {
+    if lent.out < need.out {
         return Verdict::Refused(refusals::ROOM);
     }
     Verdict::Passed

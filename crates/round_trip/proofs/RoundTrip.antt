@@ -16,7 +16,9 @@ use Rattle.header_reader.specs.Header as Spec
 use Rattle.header_reader.specs.Header.{fieldAfter, field, headerOf, heightField, maximumField, header}
 use Rattle.header_reader.specs.Answers.{wholeHeader}
 use Rattle.picture_sizes.specs.PictureSize.{isSide, isChannels}
-use Rattle.still_reader.specs.Read.{channelsOf, headerTests, magicTest, pictureOf, stillOf}
+use Rattle.still_reader.specs.Head.{channelsOf, magicTest, headerTests, announced, headOf}
+use Rattle.still_reader.specs.Read.{stillOf}
+use Rattle.still_reader.proofs.Headed.{headed, read-headed, headed-read}
 use Rattle.header_writer.specs.Heading.{decimalIn, decimal, magicLine, headerBytes}
 use Rattle.answers.specs.declared.Still.the-variants.{Refused, Picture}
 use Rattle.picture_sizes.proofs.PictureSizeLaws.{channels-cases}
@@ -154,26 +156,24 @@ magic-back : (c : ℕ) → isChannels c ≡ true → channelsOf (cond (eqb c 1) 
 unfolding channelsOf
 magic-back c e = ⊎-elim (λ f. rw f) (λ f. rw f) (channels-cases c e)
 
--- a whole header and its whole raster are a picture
-picture-whole : (w h c n total : ℕ) → isSide w ≡ true → isSide h ≡ true → total ≡ 2 + n + w * h * c → pictureOf c (wholeHeader w h 255 n) total ≡ Picture w h c (2 + n)
-unfolding pictureOf headerTests wholeHeader
-picture-whole w h c n total a b e =
-    let rest : total - (2 + n) ≡ w * h * c = omega arith in
-    rw (a, b, rest, le-leb (w * h * c) (w * h * c) (omega arith))
+-- a whole header announces its picture
+picture-announced : (w h c n : ℕ) → isSide w ≡ true → isSide h ≡ true → announced c (wholeHeader w h 255 n) ≡ Picture w h c (2 + n)
+unfolding announced headerTests wholeHeader
+picture-announced w h c n a b = rw (a, b)
 
 module _ (w h c : ℕ) (raster : List ℕ) (a : isSide w ≡ true) (b : isSide h ≡ true) (d : isChannels c ≡ true) (e : length raster ≡ w * h * c) where
-  total : length (80 ∷ cond (eqb c 1) 53 54 ∷ after w h raster) ≡ 2 + size w h raster + w * h * c
-  total = ap length (sym (header-is w h c raster)) ∙ length-append (headerBytes w h c) raster ∙ rw (e, header-size w h c raster)
-
   some-channels : 1 ≤ c
   some-channels = ⊎-elim (λ f. omega arith) (λ f. omega arith) (channels-cases c d)
 
+  head-back : headOf (headerBytes w h c ++ raster) ≡ Picture w h c (length (headerBytes w h c))
+  unfolding headOf magicTest
+  head-back =
+      rw (header-is w h c raster, magic-back c d, le-leb 1 c some-channels, header-written w h raster)
+      (picture-announced w h c (size w h raster) a b ∙ ap (λ (n : ℕ). Picture w h c n) (sym (header-size w h c raster)))
+
   -- it reads back with the same width, height and channels
   pub round-trip : stillOf (headerBytes w h c ++ raster) ≡ Picture w h c (length (headerBytes w h c))
-  unfolding stillOf magicTest
-  round-trip =
-      rw (header-is w h c raster, magic-back c d, le-leb 1 c some-channels, header-written w h raster, total)
-      (picture-whole w h c (size w h raster) (2 + size w h raster + w * h * c) a b refl ∙ ap (λ (n : ℕ). Picture w h c n) (sym (header-size w h c raster)))
+  round-trip = headed-read (headerBytes w h c ++ raster) head-back (length-append (headerBytes w h c) raster ∙ rw e)
 
 -- with the same samples, and nothing after them
 pub round-trip-samples : (w h c : ℕ) (raster : List ℕ) → drop (length (headerBytes w h c)) (headerBytes w h c ++ raster) ≡ raster
@@ -188,49 +188,11 @@ pub record Valid (bytes : List ℕ) (w h c start : ℕ) : Type 0 where
   pub channels : isChannels c ≡ true
   pub raster : length (drop start bytes) ≡ w * h * c
 
-and-left : (s t : Bool) → (s && t) ≡ true → s ≡ true
-and-left true t k = refl
-and-left false t k = let z : _≡_ {A = ℕ} 0 1 = cc in absurd (omega arith)
-
-and-right : (s t : Bool) → (s && t) ≡ true → t ≡ true
-and-right true t k = k
-and-right false t k = let z : _≡_ {A = ℕ} 0 1 = cc in absurd (omega arith)
-
-some-channels-are : (b : ℕ) → 1 ≤ channelsOf b → isChannels (channelsOf b) ≡ true
-unfolding channelsOf isChannels
-some-channels-are b = go (eqb b 53) (eqb b 54)
-  where
-    go : (s t : Bool) → 1 ≤ cond s 1 (cond t 3 0) → isChannels (cond s 1 (cond t 3 0)) ≡ true
-    go true t h = refl
-    go false true h = refl
-    go false false h = absurd (not-suc-le-zero h)
-
-never : {w h c s : ℕ} (n : ℕ) → Refused n ≡ Picture w h c s → ⊥
-never n e = let z : _≡_ {A = ℕ} 0 1 = cc in omega arith
-
 pub picture-valid : (bytes : List ℕ) {w h c start : ℕ} → stillOf bytes ≡ Picture w h c start → Valid bytes w h c start
-unfolding stillOf magicTest pictureOf headerTests
 picture-valid bytes {w} {h} {c} {start} e =
-    let C = channelsOf (getD bytes 1 0) in
-    let H = header (drop 2 bytes) in
-    let p = passed Refused (magicTest bytes ∷ []) (pictureOf C H (length bytes)) (Picture w h c start) never e in
-    let q = passed Refused (headerTests C H (length bytes - (2 + H .size))) (Picture (H .width) (H .height) C (2 + H .size)) (Picture w h c start) never (p .1) in
-    let m = leb-true 1 C (and-right (eqb (getD bytes 0 0) 80) (leb 1 C) (p .0 .0)) in
-    let sides = q .0 .1 .0 in
-    let short = leb-true (H .width * H .height * C) (length bytes - (2 + H .size)) (q .0 .1 .1 .1 .0) in
-    let long = leb-true (length bytes - (2 + H .size)) (H .width * H .height * C) (q .0 .1 .1 .1 .1 .0) in
-    let t = q .1 in
-    let ew : H .width ≡ w = cc in
-    let eh : H .height ≡ h = cc in
-    let ec : C ≡ c = cc in
-    let es : 2 + H .size ≡ start = cc in
-    rw (sym ew, sym eh, sym ec, sym es)
-    (record {
-      width = and-left (isSide (H .width)) (isSide (H .height)) sides;
-      height = and-right (isSide (H .width)) (isSide (H .height)) sides;
-      channels = some-channels-are (getD bytes 1 0) m;
-      raster = length-drop (2 + H .size) bytes ∙ le-antisymm long short;
-    })
+    let r = read-headed bytes e in
+    let k = headed bytes (r .0) in
+    record { width = k .width; height = k .height; channels = k .channels; raster = length-drop start bytes ∙ r .1 }
 
 -- what `read_still` accepts, written again, reads back as the same picture
 pub written-again : (bytes : List ℕ) {w h c start : ℕ} → stillOf bytes ≡ Picture w h c start

@@ -1,1 +1,3 @@
 pub mod ReadLaws
+pub mod Headed
+pub mod InOneStep

@@ -1,5 +1,5 @@
--- Laws of `read_still`: a header's numbers may be cut at 10,000, and a whole header ends inside the file. Assumes nothing.
-use Prim.Native.Nat.{ℕ, _+_, _-_, _*_, _≤_, _<_, min}
+-- Laws of `read_head`: a header's numbers may be cut at 10,000, and a whole header ends inside the file. Assumes nothing.
+use Prim.Native.Nat.{ℕ, _+_, _≤_, _<_, min}
 use native.Mathlib.Nat.{lt-of-not-le}
 use native.Mathlib.Omega.{arith}
 use native.Mathlib.Decide.{decLe}
@@ -15,7 +15,7 @@ use Rattle.header_reader.specs.Header.{field, headerOf, heightField, maximumFie
 use Rattle.header_reader.specs.Answers.{headerAnswer, wholeHeader}
 use Rattle.picture_sizes.specs.PictureSize.{isSide}
 use Rattle.picture_sizes.proofs.PictureSizeLaws.{side-le}
-use Rattle.still_reader.specs.Read.{channelsOf, headerTests, pictureOf}
+use Rattle.still_reader.specs.Head.{channelsOf, headerTests, announced}
 use Rattle.header_reader.specs.declared.Header.{Header}
 use Rattle.header_reader.specs.declared.Header.the-variants.{Bad, Numbers}
 use Rattle.answers.specs.declared.Still.{Still}
@@ -51,13 +51,13 @@ maximum-cut n = go (decLe n 255) (decLe 255 n)
 
 -- ---- a whole header's numbers, cut
 
-pub picture-cut : (c total : ℕ) (h : Spec.Header) → h .whole ≡ true
-    → pictureOf c (wholeHeader (min (h .width) 10000) (min (h .height) 10000) (min (h .maximum) 10000) (h .size)) total ≡ pictureOf c h total
-unfolding pictureOf headerTests wholeHeader
-picture-cut c total h e = rw (e, side-cut, side-cut, maximum-cut) (go (isSide (h .width)) (isSide (h .height)) refl refl)
+pub announced-cut : (c : ℕ) (h : Spec.Header) → h .whole ≡ true
+    → announced c (wholeHeader (min (h .width) 10000) (min (h .height) 10000) (min (h .maximum) 10000) (h .size)) ≡ announced c h
+unfolding announced headerTests wholeHeader
+announced-cut c h e = rw (e, side-cut, side-cut, maximum-cut) (go (isSide (h .width)) (isSide (h .height)) refl refl)
   where
     after : ℕ → ℕ → Still
-    after w k = cond (eqb (h .maximum) 255) (cond (leb (w * k * c) (total - (2 + h .size))) (cond (leb (total - (2 + h .size)) (w * k * c)) (Picture w k c (2 + h .size)) (Refused 6)) (Refused 5)) (Refused 4)
+    after w k = cond (eqb (h .maximum) 255) (Picture w k c (2 + h .size)) (Refused 4)
 
     go : (s t : Bool) → isSide (h .width) ≡ s → isSide (h .height) ≡ t → cond (s && t) (after (min (h .width) 10000) (min (h .height) 10000)) (Refused 3) ≡ cond (s && t) (after (h .width) (h .height)) (Refused 3)
     go true true f g =
@@ -107,20 +107,11 @@ space-inside bytes k e = go (decLe (length bytes) k)
     go (yes h) = let d : isSpace 0 ≡ true = rw (List·getD-eq-default bytes 0 h) at e in let z : _≡_ {A = ℕ} 0 1 = cc in absurd (omega arith)
     go (no h) = lt-of-not-le h
 
-pub header-inside : (bytes : List ℕ) → (header bytes) .whole ≡ true → (header bytes) .size ≤ length bytes
+pub header-inside : (bytes : List ℕ) → (header bytes) .whole ≡ true → (1 ≤ (header bytes) .size) × ((header bytes) .size ≤ length bytes)
 unfolding header headerOf
-header-inside bytes e = omega (arith, space-inside bytes _ (last-true ((field bytes) .whole) ((heightField bytes) .whole) ((maximumField bytes) .whole) _ e))
+header-inside bytes e = (omega arith, omega (arith, space-inside bytes _ (last-true ((field bytes) .whole) ((heightField bytes) .whole) ((maximumField bytes) .whole) _ e)))
 
 -- ---- the magic
-
-pub channels-le : (b : ℕ) → channelsOf b ≤ 3
-unfolding channelsOf
-channels-le b = go (eqb b 53) (eqb b 54)
-  where
-    go : (s t : Bool) → cond s 1 (cond t 3 0) ≤ 3
-    go true t = omega arith
-    go false true = omega arith
-    go false false = omega arith
 
 pub magic-short : (bytes : List ℕ) → length bytes < 2 → (eqb (getD bytes 0 0) 80 && leb 1 (channelsOf (getD bytes 1 0))) ≡ false
 unfolding channelsOf

@@ -9,6 +9,8 @@ use Rattle.answers.specs.declared.Written.{Written}
 use Rattle.answers.specs.declared.Written.the-variants as Written
 use Rattle.answers.specs.declared.Recipe.{Recipe}
 use Rattle.answers.specs.declared.Recipe.the-variants as Recipe
+use Rattle.answers.specs.declared.Needs.{Needs}
+use Rattle.answers.specs.declared.Needs.the-variants as Needs
 use Rattle.answers.specs.declared.Filtered.{Filtered}
 use Rattle.answers.specs.declared.Filtered.the-variants as Filtered
 use Rattle.answers.specs.declared.File.{File}
@@ -55,6 +57,11 @@ writtenTold (Written.Length n) = values (n ∷ [])
 abbrev pub recipeTold : Recipe → Told
 recipeTold (Recipe.Refused n) = refusal n
 recipeTold (Recipe.Stages S T) = values (S ∷ T ∷ [])
+
+-- of `needs`: how many work bytes, row values and sums must be lent, how many bytes are written, and T
+abbrev pub needsTold : Needs → Told
+needsTold (Needs.Refused n) = refusal n
+needsTold (Needs.Lengths works rows sums out T) = values (works ∷ rows ∷ sums ∷ out ∷ T ∷ [])
 
 -- of `filter_plane`: T
 abbrev pub planeTold : Filtered → Told

@@ -5,11 +5,12 @@ use answers::Filtered;
 use answers::Held;
 use answers::Mean;
 use answers::Movement;
+use answers::Needs;
 use answers::Recipe;
 use answers::Still;
 use answers::Written;
 ghost use mathlib.Core.Path.{_≡_};
-ghost use Rattle.told.specs.Numbers.{Tells, stillTold, writtenTold, recipeTold, planeTold, fileTold, heldIn, changedTold, meanTold, movementTold};
+ghost use Rattle.told.specs.Numbers.{Tells, stillTold, writtenTold, recipeTold, needsTold, planeTold, fileTold, heldIn, changedTold, meanTold, movementTold};
 
 pub fn still(answer: Still, result: &mut [u64; 4]) -> u32
     ensures { λ r. ⌜ Tells (stillTold answer) (now (result .entry)) (now (result .exit)) r ⌝ }
@@ -47,6 +48,30 @@ pub fn recipe(answer: Recipe, result: &mut [u64; 2]) -> u32
         Recipe::Refused(n) => n as u32,
         Recipe::Stages { count, tolerance } => {
             *result = [count as u64, tolerance];
+            0
+        }
+    }
+}
+
+pub fn needs(answer: Needs, result: &mut [u64; 5]) -> u32
+    ensures { λ r. ⌜ Tells (needsTold answer) (now (result .entry)) (now (result .exit)) r ⌝ }
+{
+    match answer {
+        Needs::Refused(n) => n as u32,
+        Needs::Lengths {
+            works,
+            rows,
+            sums,
+            out,
+            tolerance,
+        } => {
+            *result = [
+                works as u64,
+                rows as u64,
+                sums as u64,
+                out as u64,
+                tolerance,
+            ];
             0
         }
     }

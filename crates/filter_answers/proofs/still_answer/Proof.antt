@@ -2,8 +2,6 @@
 use native.Mathlib.Omega.{arith}
 use mathlib.Core.Path.{sym, _∙_}
 use denote.Ref.{now}
-use Rattle.header_writer.proofs.HeadingLaws.{header-length}
-use Rattle.filter_answers.specs.FileAnswer.{fileSize}
 use Rattle.filter_answers.proofs.FileAccepted.{shown, still-refused, still-limited, still-done}
 use borrow.Author.Needs.{needs}
 use Rattle.filter_answers.proofs.still_answer.Statement.{statement}
@@ -18,36 +16,24 @@ enum-known-n c = search needs
 enum-known-width : tie.Need-enum-known-width
 enum-known-width c = search needs
 
-mul-size : tie.Need-mul-size
-mul-size c =
+mul-if1 : tie.Need-mul-if1
+mul-if1 c =
     let s = shown (now (c .before .before .before .before .before .args .still)) (sym (c .before .before .before .read-still .ensures) ∙ c .before .width .given .1) in
     record { fits = omega (arith, s .plane-small) }
 
 returns : tie.Need-returns
 returns c = sym (still-limited _ _ (sym (c .before .before .before .before .read-still .ensures) ∙ c .before .before .width .given .1) (omega (arith, c .if1 .taken)))
 
-header-requires : tie.Need-header-requires
-header-requires c κs =
+file-size-requires : tie.Need-file-size-requires
+file-size-requires c κs =
     let s = shown (now (c .before .before .before .before .before .before .args .still)) (sym (c .before .before .before .before .read-still .ensures) ∙ c .before .before .width .given .1) in
-    (s .width .1, s .height .1)
-
-mul-len : tie.Need-mul-len
-mul-len c =
-    let s = shown (now (c .before .before .before .before .before .before .before .args .still)) (sym (c .before .before .before .before .before .read-still .ensures) ∙ c .before .before .before .width .given .1) in
-    record { fits = omega (arith, s .raster-small) }
-
-add-len : tie.Need-add-len
-add-len c =
-    let g = c .before .before .before .before .width .given .0 in
-    let s = shown (now (c .before .before .before .before .before .before .before .before .args .still)) (sym (c .before .before .before .before .before .before .read-still .ensures) ∙ c .before .before .before .before .width .given .1) in
-    record { fits = omega (arith, s .raster-small, c .before .header .ensures .size, header-length (g .0) (g .1 .0) (g .1 .1 .0) (s .width .1) (s .height .1)) }
+    (s .width .1, s .height .1, s .channels .1)
 
 returns-2 : tie.Need-returns-2
 returns-2 c = sym (still-refused _ _ (sym (c .before .before .before .read-still .ensures) ∙ c .before .n .given .1))
 
 returns-3 : tie.Need-returns-3
-unfolding fileSize
-returns-3 c = sym (still-done _ _ (sym (c .before .before .before .before .before .before .read-still .ensures) ∙ c .before .before .before .before .width .given .1) (omega (arith, c .before .before .if1 .left)) ∙ rw (c .before .header .ensures .size))
+returns-3 c = sym (still-done _ _ (sym (c .before .before .before .before .before .read-still .ensures) ∙ c .before .before .before .width .given .1) (omega (arith, c .before .if1 .left)) ∙ rw (c .file-size .ensures))
 
 pub still-answer-spec : {M : Type 1} → statement M
 still-answer-spec =
@@ -56,10 +42,8 @@ still-answer-spec =
     read-still-requires
     enum-known-n
     enum-known-width
-    mul-size
+    mul-if1
     returns
-    header-requires
-    mul-len
-    add-len
+    file-size-requires
     returns-2
     returns-3)

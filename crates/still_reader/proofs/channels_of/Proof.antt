@@ -1,6 +1,6 @@
 -- `still_reader::channels_of` meets its contract. Assumes nothing.
 use borrow.Author.Tests.{eq-eqb, ne-eqb}
-use Rattle.still_reader.specs.Read.{channelsOf}
+use Rattle.still_reader.specs.Head.{channelsOf}
 use borrow.Author.Needs.{needs}
 use Rattle.still_reader.proofs.channels_of.Statement.{statement}
 use Rattle.still_reader.proofs.channels_of.Tie as tie

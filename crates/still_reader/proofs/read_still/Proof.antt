@@ -1,102 +1,66 @@
--- `still_reader::read_still` meets its contract. Assumes nothing.
+-- `still_reader::read_still` meets its contract: what the header announces, and then the raster. Assumes nothing.
 use native.Mathlib.Omega.{arith}
-use Prim.Native.Nat.{ℕ}
-use mathlib.Core.Path.{sym, ap, _∙_}
-use mathlib.Core.List.{List}
-use lib.ListN.{length, getD, drop, length-drop}
+use mathlib.Core.Path.{sym, _∙_}
 use denote.Ref.{now}
-use borrow.Author.Tests.{le-leb, lt-leb, eq-eqb, ne-eqb}
-use Rattle.lists.proofs.Part.{tail-mid}
-use Rattle.still_reader.specs.Read.{headerTests, magicTest, pictureOf, stillOf}
-use Rattle.header_reader.specs.Header.{header}
-use Rattle.header_reader.specs.Answers.{headerAnswer}
-use Rattle.still_reader.proofs.ReadLaws.{numbers-whole, bad-broken, header-inside, picture-cut, channels-le, magic-short}
+use borrow.Author.Tests.{le-leb, lt-leb}
+use Rattle.picture_sizes.proofs.PictureSizeLaws.{side-le, channels-few, size-small}
+use Rattle.still_reader.specs.Read.{stillOf}
+use Rattle.still_reader.proofs.Headed.{headed}
 use borrow.Author.Needs.{needs}
 use Rattle.still_reader.proofs.read_still.Statement.{statement}
 use Rattle.still_reader.proofs.read_still.Tie as tie
 
-returns : tie.Need-returns
-unfolding stillOf magicTest
-returns c = rw (magic-short (now (c .before .before .args .bytes)) (omega (arith, c .if1 .taken)))
-
-shared-slice-read-if2 : tie.Need-shared-slice-read-if2
-shared-slice-read-if2 c = search needs
-
-returns-2 : tie.Need-returns-2
-unfolding stillOf magicTest
-returns-2 c = rw (ne-eqb _ 80 (c .if2 .taken))
-
-shared-slice-read-channels-of : tie.Need-shared-slice-read-channels-of
-shared-slice-read-channels-of c = search needs
-
-channels-of-requires : tie.Need-channels-of-requires
-channels-of-requires c κs = search needs
-
-returns-3 : tie.Need-returns-3
-unfolding stillOf magicTest
-returns-3 c =
-    let e = c .before .channels-of .ensures in
-    rw (eq-eqb _ 80 (c .before .before .before .if2 .left), ← e, lt-leb 1 (c .before .channels-of .result) (c .if3 .taken))
-
-sub-read-header : tie.Need-sub-read-header
-sub-read-header c = search needs
-
-part-read-header-start : tie.Need-part-read-header-start
-part-read-header-start c = search needs
-
-part-read-header-end : tie.Need-part-read-header-end
-part-read-header-end c = search needs
-
-read-header-requires : tie.Need-read-header-requires
-read-header-requires c κs = search needs
+read-head-requires : tie.Need-read-head-requires
+read-head-requires c κs = search needs
 
 enum-told : tie.Need-enum-told
 enum-told c = search needs
 
-enum-known-width : tie.Need-enum-known-width
-enum-known-width c = search needs
+enum-known-head : tie.Need-enum-known-head
+enum-known-head c = search needs
 
-picture-requires : tie.Need-picture-requires
-picture-requires c κs =
-    let b = now (c .before .before .before .before .before .before .before .before .before .before .before .before .args .bytes) in
-    let a = ap (λ (l : List ℕ). headerAnswer (header l)) (sym (tail-mid 2 b)) ∙ sym (c .before .before .before .read-header .ensures) ∙ c .before .width .given .1 in
-    let w = numbers-whole (header (drop 2 b)) a in
-    (omega (arith, c .before .before .before .before .before .before .channels-of .ensures, channels-le (getD b 1 0)), omega (arith, w .size, header-inside (drop 2 b) (w .whole), length-drop 2 b))
+mul-size : tie.Need-mul-size
+mul-size c =
+    let h = headed (now (c .before .before .before .before .before .args .bytes)) (sym (c .before .before .before .read-head .ensures) ∙ c .before .head .given .1) in
+    omega (arith, size-small _ _ _ (side-le _ (h .width) .1) (side-le _ (h .height) .1) (channels-few _ (h .channels)))
+
+mul-size-2 : tie.Need-mul-size-2
+mul-size-2 c =
+    let h = headed (now (c .before .before .before .before .before .args .bytes)) (sym (c .before .before .before .read-head .ensures) ∙ c .before .head .given .1) in
+    omega (arith, size-small _ _ _ (side-le _ (h .width) .1) (side-le _ (h .height) .1) (channels-few _ (h .channels)))
+
+sub-rest : tie.Need-sub-rest
+sub-rest c =
+    let h = headed (now (c .before .before .before .before .before .args .bytes)) (sym (c .before .before .before .read-head .ensures) ∙ c .before .head .given .1) in
+    omega (arith, h .inside)
+
+returns : tie.Need-returns
+unfolding stillOf
+returns c = rw (sym (c .before .before .before .before .read-head .ensures) ∙ c .before .before .head .given .1, lt-leb _ _ (c .if1 .taken))
+
+returns-2 : tie.Need-returns-2
+unfolding stillOf
+returns-2 c = rw (sym (c .before .before .before .before .before .read-head .ensures) ∙ c .before .before .before .head .given .1, le-leb _ _ (c .before .if1 .left), lt-leb _ _ (c .if2 .taken))
+
+returns-3 : tie.Need-returns-3
+unfolding stillOf
+returns-3 c = rw (sym (c .before .before .read-head .ensures), c .enum-told .given .1)
 
 returns-4 : tie.Need-returns-4
-unfolding stillOf magicTest pictureOf headerTests
-returns-4 c =
-    let b = now (c .before .before .before .before .before .before .before .before .before .before .before .args .bytes) in
-    let e = c .before .before .before .before .before .channels-of .ensures in
-    let a = ap (λ (l : List ℕ). headerAnswer (header l)) (sym (tail-mid 2 b)) ∙ sym (c .before .before .read-header .ensures) ∙ c .enum-told .given .1 in
-    rw (eq-eqb _ 80 (c .before .before .before .before .before .before .before .if2 .left), ← e, le-leb 1 (c .before .before .before .before .before .channels-of .result) (c .before .before .before .before .if3 .left), bad-broken (header (drop 2 b)) a)
-
-returns-5 : tie.Need-returns-5
-unfolding stillOf magicTest
-returns-5 c =
-    let b = now (c .before .before .before .before .before .before .before .before .before .before .before .before .before .args .bytes) in
-    let e = c .before .before .before .before .before .before .before .channels-of .ensures in
-    let a = ap (λ (l : List ℕ). headerAnswer (header l)) (sym (tail-mid 2 b)) ∙ sym (c .before .before .before .before .read-header .ensures) ∙ c .before .before .width .given .1 in
-    let w = numbers-whole (header (drop 2 b)) a in
-    rw (eq-eqb _ 80 (c .before .before .before .before .before .before .before .before .before .if2 .left), ← e, le-leb 1 (c .before .before .before .before .before .before .before .channels-of .result) (c .before .before .before .before .before .before .if3 .left), ← picture-cut (c .before .before .before .before .before .before .before .channels-of .result) (length b) (header (drop 2 b)) (w .whole), ← w .width, ← w .height, ← w .maximum, ← w .size)
-    (c .picture .ensures)
+unfolding stillOf
+returns-4 c = rw (sym (c .before .before .before .before .before .read-head .ensures), c .before .before .before .head .given .1, le-leb _ _ (c .before .if1 .left), le-leb _ _ (c .if2 .left))
 
 pub read-still-spec : {M : Type 1} → statement M
 read-still-spec =
     tie.close
     (tie.spec
-    returns
-    shared-slice-read-if2
-    returns-2
-    shared-slice-read-channels-of
-    channels-of-requires
-    returns-3
-    sub-read-header
-    part-read-header-start
-    part-read-header-end
-    read-header-requires
+    read-head-requires
     enum-told
-    enum-known-width
-    picture-requires
-    returns-4
-    returns-5)
+    enum-known-head
+    mul-size
+    mul-size-2
+    sub-rest
+    returns
+    returns-2
+    returns-3
+    returns-4)

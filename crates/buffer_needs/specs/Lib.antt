@@ -1,0 +1,3 @@
+-- What a still and a recipe need, definitions only.
+pub mod NeedsAnswer
+pub mod Examples
