@@ -25,10 +25,14 @@ fn refused(n: u8, work: &[u8], rows: &[i32], sums: &[u32], out: &[u8]) {
     kept(junk::all_kept(work, rows, sums, out));
 }
 
-// Else the output is as wanted, and its tail stays.
+// Else the output is as wanted, and its tail stays. Where no output is there to compare with, its length is shown.
 fn filtered(tolerance: u64, len: usize, wanted: &[u8], out: &[u8]) {
     printing::number(tolerance);
-    same(len == wanted.len() && junk::front(out, wanted));
+    if wanted.len() == 0 {
+        printing::number(len as u64);
+    } else {
+        same(len == wanted.len() && junk::front(out, wanted));
+    }
     kept(junk::bytes_kept(out, len));
 }
 

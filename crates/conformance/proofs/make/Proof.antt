@@ -26,6 +26,9 @@ keep-requires c κs = search needs
 run-requires : tie.Need-run-requires
 run-requires c κs = search needs
 
+run-requires-2 : tie.Need-run-requires-2
+run-requires-2 c κs = search needs
+
 asked-requires : tie.Need-asked-requires
 asked-requires c κs = search needs
 
@@ -47,6 +50,9 @@ returns-4 c = search needs
 returns-5 : tie.Need-returns-5
 returns-5 c = search needs
 
+returns-6 : tie.Need-returns-6
+returns-6 c = search needs
+
 pub make-spec : {M : Type 1} → statement M
 make-spec =
     tie.close
@@ -58,10 +64,12 @@ make-spec =
     give-back-requires
     keep-requires
     run-requires
+    run-requires-2
     asked-requires
     filter-requires
     returns
     returns-2
     returns-3
     returns-4
-    returns-5)
+    returns-5
+    returns-6)
