@@ -27,11 +27,11 @@ def contents(*path):
 
 
 def cases():
-    """The vectors that have a still and a recipe and no limits, and whose line is not about files on disk or lent lengths."""
+    """The vectors that have a still and a recipe and no limits, and whose line is not about files on disk, lent lengths or needs."""
     for name in sorted(os.listdir(VECTORS)):
         files = os.listdir(os.path.join(VECTORS, name))
         words = contents(name, "line").split()
-        if "still" in files and "recipe" in files and "limits" not in files and words[:2] not in ([b"no", b"20"], [b"no", b"21"], [b"no", b"22"]):
+        if "still" in files and "recipe" in files and "limits" not in files and words[0] != b"work" and words[:2] not in ([b"no", b"20"], [b"no", b"21"], [b"no", b"22"]):
             yield name, words
 
 
@@ -76,6 +76,39 @@ class Vectors(unittest.TestCase):
             return hejslopi.filter_file(still, recipe, *limits)
         except hejslopi.Refusal as refusal:
             return refusal.number
+
+    def test_needs(self):
+        """The lines of lengths; and of the other cases T and the output's length, or the refusal, where that is not the raster's."""
+        tried = 0
+        for name in sorted(os.listdir(VECTORS)):
+            if contents(name, "line").startswith(b"work"):
+                tried += 1
+                with self.subTest(name):
+                    needed = hejslopi.needs(contents(name, "still"), contents(name, "recipe"))
+                    self.assertEqual("work %d rows %d sums %d out %d T %d" % needed, contents(name, "line").decode().strip())
+        self.assertGreater(tried, 30)
+        for name, words in cases():
+            with self.subTest(name):
+                if words[0] == b"ok":
+                    self.assertEqual(hejslopi.needs(contents(name, "still"), contents(name, "recipe"))[3:], (len(contents(name, "out")), int(words[4])))
+                elif words[1] not in (b"5", b"6"):
+                    with self.assertRaises(hejslopi.Refusal) as raised:
+                        hejslopi.needs(contents(name, "still"), contents(name, "recipe"))
+                    self.assertEqual(raised.exception.number, int(words[1]))
+
+    def test_needs_of_a_header(self):
+        """Whatever follows the header, nothing is set aside: the needs of 8,192 by 8,192, and a call on them that is refused, in little memory."""
+        self.assertEqual(hejslopi.needs(b"P6 5 4 255\n", bytes.fromhex("01 04 01 00 01 02")), (40, 170, 48, 71, 32768))
+        self.assertEqual(hejslopi.needs(STILL + b"more", RECIPE)._asdict(), {"work": 6, "rows": 93, "sums": 0, "out": 14, "tolerance": 33280})
+        code = ("import hejslopi\nimport resource\nstill, recipe = b'P5\\n8192 8192\\n255\\n', bytes.fromhex('01 04 01 00 0f 0f')\n"
+                "hejslopi.read_recipe(recipe)\n"
+                "now = int(open('/proc/self/statm').read().split()[0]) * resource.getpagesize()\n"
+                "resource.setrlimit(resource.RLIMIT_AS, (now + (16 << 20), now + (16 << 20)))\n"
+                "assert hejslopi.needs(still, recipe) == (134217728, 67354624, 8223 * 32, 67108881, 32768)\n"
+                "try:\n    hejslopi.filter_file(still, recipe)\nexcept hejslopi.Refusal as refusal:\n    assert refusal.number == 5\n")
+        here = os.path.dirname(os.path.abspath(__file__))
+        done = subprocess.run([sys.executable, "-c", code], cwd=here, stderr=subprocess.PIPE, universal_newlines=True)
+        self.assertEqual((done.returncode, done.stderr), (0, ""))
 
     def test_planes(self):
         """A still of one channel and a recipe of one stage are the plane's too."""

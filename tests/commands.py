@@ -1,4 +1,5 @@
-"""The command `hejslopi` in Python: making, explaining and describing recipes, many stills at once, movement, and what it says when something is missing.
+"""The command `hejslopi` in Python: making, explaining and describing recipes, many stills at once, what must be lent, movement, and what it says when something
+is missing.
 
 What it shares with the other front ends, filtering one still, is tried in front_ends.py.
 """
@@ -254,6 +255,39 @@ def bar(tally, room):
     tally.equal("many on a terminal", (answer.status, steps, shown.split("\r")[-2].strip("\033[K"), "T 33280" in shown), (1, [True] * 4, "2 of 3 filtered into shown", False))
 
 
+# ---- needs
+
+
+def needs(tally):
+    """The line, whatever follows the header, and what is said of each thing that is wrong. Nothing is written."""
+    box = bytes.fromhex("01 04 01 00 01 02")
+    files = {"still.pgm": program.STILL, "recipe": program.RECIPE, "box": box, "header.pgm": b"P5\n5 4\n255\n", "long.ppm": b"P6 5 4 255\n" + bytes(61),
+             "largest.ppm": b"P6\n8192 8192\n255\n", "short": b"P5\n3 1\n255", "zero.pgm": b"P5\n0 4\n255\n", "deep.pgm": b"P5\n5 4\n65535\n", "other.pbm": b"P4\n5 4\n",
+             "refused": b"\x01\x09", "empty": b""}
+    with folders.fresh_folder() as room:
+        for name, data in files.items():
+            written(os.path.join(room, name), data)
+        for still, recipe, line in (("still.pgm", "recipe", "work 6 rows 93 sums 0 out 14 T 33280"), ("header.pgm", "box", "work 40 rows 170 sums 48 out 31 T 32768"),
+                                    ("long.ppm", "box", "work 40 rows 170 sums 48 out 71 T 32768"), ("largest.ppm", "box", "work 134217728 rows 67354624 sums 49170 out 201326609 T 32768")):
+            tally.equal("needs of %s by %s" % (still, recipe), run(["needs", still, recipe], room, program.bounded(0)), Answer(0, line + "\n", ""))
+        for where, words, status, said in (
+            ("a refused recipe before a refused header", ["other.pbm", "refused"], 1, ["refused: refused with 13", "stage 1, kind: found 9"]),
+            ("an empty recipe", ["still.pgm", "empty"], 1, ["empty: refused with 11", "it has no bytes"]),
+            ("another magic", ["other.pbm", "recipe"], 1, ["other.pbm: refused with 1", "it begins with 'P4'"]),
+            ("no bytes", ["empty", "recipe"], 1, ["empty: refused with 1", "it has no bytes"]),
+            ("a header that is cut", ["short", "recipe"], 1, ["short: refused with 2"]),
+            ("a width of 0", ["zero.pgm", "recipe"], 1, ["zero.pgm: refused with 3", "found 0 by 4"]),
+            ("another maximum", ["deep.pgm", "recipe"], 1, ["deep.pgm: refused with 4", "found 65535"]),
+            ("a missing still", ["none.pgm", "recipe"], 2, ["none.pgm: cannot be read: No such file"]),
+            ("a missing recipe", ["still.pgm", "none"], 2, ["none: cannot be read: No such file"]),
+            ("a folder", [".", "recipe"], 2, [".: cannot be read: Is a directory"]),
+            ("no recipe", ["still.pgm"], 2, ["words behind `needs`: 1", "usage: hejslopi needs STILL RECIPE"]),
+            ("an output", ["still.pgm", "recipe", "out"], 2, ["words behind `needs`: 3", "usage: hejslopi needs STILL RECIPE"]),
+        ):
+            one_line(tally, "needs: %s" % where, run(["needs"] + words, room), status, *said)
+        tally.equal("needs: files", sorted(os.listdir(room)), sorted(files))
+
+
 # ---- movement
 
 
@@ -321,7 +355,7 @@ def usage(tally):
                             (["explain", "a", "b"], "usage"), (["describe", "--json", "a"], "the option --json"), (["filter", "-x", "a", "b", "c"], "the option -x"),
                             (["explain", "--json=1", "a"], "the option --json=1"), (["explain", "--json", "a", "--json"], "--json twice")):
             one_line(tally, "usage: %s" % words, run(words, room), 2, said)
-        for words in (["--help"], ["-h"], ["help"], ["recipe", "--help"], ["filter", "-h"], ["explain", "--help"], ["describe", "x", "--help"], ["movement", "--help"], ["help", "filter"]):
+        for words in (["--help"], ["-h"], ["help"], ["recipe", "--help"], ["filter", "-h"], ["explain", "--help"], ["describe", "x", "--help"], ["needs", "--help"], ["movement", "--help"], ["help", "filter"]):
             answer = run(words, room)
             tally.equal("help: %s" % words, (answer.status, answer.stderr, "hejslopi" in answer.stdout, "Ends with 0" in answer.stdout), (0, "", True, True))
         if os.path.exists("/dev/full"):
@@ -417,5 +451,5 @@ def pip_installs(tally):
 
 
 def try_commands(tally):
-    for part in (recipes_made, wrong_descriptions, explained, described, many, movement, usage, help_example, through_a_link, library_missing, library_closed, pip_installs):
+    for part in (recipes_made, wrong_descriptions, explained, described, many, needs, movement, usage, help_example, through_a_link, library_missing, library_closed, pip_installs):
         part(tally)

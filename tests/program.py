@@ -225,11 +225,16 @@ def laid_as(path):
 
 
 def vector_names(kind):
-    """The folders of a kind that are the program's. A script is of a background, two stills are of movement, and limits are of another caller, which the program
-    knows nothing of: Rust's and Python's tests run them."""
+    """The folders of a kind that are the program's. A script is of a background, two stills are of movement, limits are of another caller, and a line of lengths is
+    of needs, which the program knows nothing of: Rust's and Python's tests run them."""
     whole = os.path.join(DATA, kind)
     other = ("script", "still1", "limits")
-    return [name for name in sorted(os.listdir(whole)) if not any(os.path.exists(os.path.join(whole, name, file)) for file in other)]
+
+    def is_program(name):
+        files = os.path.join(whole, name)
+        return not any(os.path.exists(os.path.join(files, file)) for file in other) and not folders.bytes_of(os.path.join(files, "line")).startswith(b"work")
+
+    return [name for name in sorted(os.listdir(whole)) if is_program(name)]
 
 
 def vector(name):

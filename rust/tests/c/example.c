@@ -63,6 +63,26 @@ static int movement(void)
     return 0;
 }
 
+/* What a box of radii 1 and 2 needs, by a header alone, and that just so much is enough. */
+static int needs(void)
+{
+    static const uint8_t still[] = "P5\n5 4\n255\nabcdefghijklmnopqrst", recipe[] = { 1, 4, 1, 0, 1, 2 };
+    uint8_t work[40], out[31];
+    int32_t rows[170];
+    uint32_t sums[48];
+    uint64_t needed[5] = { 9, 9, 9, 9, 9 }, result[5];
+
+    CHECK(hejslopi_needs(recipe, sizeof recipe - 1, still, 2, needed) == HEJSLOPI_CUT);
+    CHECK(hejslopi_needs(recipe, sizeof recipe, still, 10, needed) == HEJSLOPI_HEADER);
+    CHECK(needed[0] == 9 && needed[4] == 9);
+    CHECK(hejslopi_needs(recipe, sizeof recipe, still, 11, needed) == HEJSLOPI_DONE);
+    CHECK(needed[0] == 40 && needed[1] == 170 && needed[2] == 48 && needed[3] == 31 && needed[4] == 32768);
+    CHECK(hejslopi_filter_file(recipe, sizeof recipe, still, sizeof still - 1, work, 40, rows, 170, sums, 47, out, 31, result) == HEJSLOPI_ROOM);
+    CHECK(hejslopi_filter_file(recipe, sizeof recipe, still, sizeof still - 1, work, 40, rows, 170, sums, 48, out, 31, result) == HEJSLOPI_DONE);
+    CHECK(result[3] == needed[4] && result[4] == needed[3]);
+    return 0;
+}
+
 /* A file for callers with limits: at a limit and one beyond it. */
 static int limits(void)
 {
@@ -150,7 +170,7 @@ int main(void)
     CHECK(strcmp(hejslopi_meaning(HEJSLOPI_MOVEMENT_LIMIT), "the movement limit is over 255") == 0);
     CHECK(strcmp(hejslopi_meaning(7), "unknown") == 0 && strcmp(hejslopi_meaning(99), "unknown") == 0);
 
-    if (limits() != 0 || movement() != 0 || background() != 0)
+    if (limits() != 0 || needs() != 0 || movement() != 0 || background() != 0)
         return 1;
     puts("ok");
     return 0;

@@ -478,7 +478,8 @@ fn is_side(n: u64) -> bool {
     (1..=8192).contains(&n)
 }
 
-pub fn read_still(bytes: &[u8]) -> Answer<Picture> {
+/// What the header says, whatever follows it.
+pub fn read_head(bytes: &[u8]) -> Answer<Picture> {
     let channels = match bytes.get(..2) {
         Some(b"P5") => 1,
         Some(b"P6") => 3,
@@ -491,16 +492,21 @@ pub fn read_still(bytes: &[u8]) -> Answer<Picture> {
     if maximum != 255 {
         return Err(4);
     }
-    let size = (width * height) as usize * channels;
-    match bytes.len() - start {
+    Ok(Picture {
+        width: width as usize,
+        height: height as usize,
+        channels,
+        start,
+    })
+}
+
+pub fn read_still(bytes: &[u8]) -> Answer<Picture> {
+    let picture = read_head(bytes)?;
+    let size = picture.width * picture.height * picture.channels;
+    match bytes.len() - picture.start {
         n if n < size => Err(5),
         n if n > size => Err(6),
-        _ => Ok(Picture {
-            width: width as usize,
-            height: height as usize,
-            channels,
-            start,
-        }),
+        _ => Ok(picture),
     }
 }
 
@@ -567,6 +573,19 @@ pub fn needs(stages: &[Stage], w: usize, h: usize, out: usize) -> Lengths {
         sums: stages.iter().map(held).max().unwrap_or(0),
         out,
     }
+}
+
+/// What a still's header and a recipe need, and T.
+pub fn needed(recipe: &[u8], still: &[u8]) -> Answer<(Lengths, u64)> {
+    let stages = read_recipe(recipe)?;
+    let Picture {
+        width: w,
+        height: h,
+        channels,
+        ..
+    } = read_head(still)?;
+    let size = file(w, h, channels, &[]).len() + w * h * channels;
+    Ok((needs(&stages, w, h, size), tolerance(&stages)))
 }
 
 fn suffices(lent: Lengths, need: Lengths) -> bool {

@@ -63,6 +63,22 @@ pub fn read_recipe(rng: &mut Rng, bytes: &[u8]) -> Result<u32, String> {
         .map_err(|e| format!("{e}\nrecipe {}\n", hex(bytes)))
 }
 
+pub fn needs(rng: &mut Rng, recipe: &[u8], still: &[u8]) -> Result<u32, String> {
+    let mut result = result::<5>(rng);
+    let number = raw::needs(recipe, still, array(&mut result));
+    let expected = reference::needed(recipe, still).map(|(need, tolerance)| {
+        let lengths = [need.work, need.rows, need.sums, need.out];
+        lengths
+            .map(|n| n as u64)
+            .into_iter()
+            .chain([tolerance])
+            .collect()
+    });
+    told(number, &result, &expected)
+        .map(|()| number)
+        .map_err(|e| format!("{e}\nrecipe {}\nstill {}\n", hex(recipe), hex(still)))
+}
+
 pub fn write_still(
     rng: &mut Rng,
     width: usize,
