@@ -170,6 +170,15 @@ def from_panel(tally, room):
     tally.equal("limits in Python", answer, (0, "%s\nTrue\n" % refusal))
 
 
+def from_planner(tally, room):
+    """The lines that ask what must be lent, behind those that make their recipe: what they print."""
+    text = section("From Python")
+    lines = printed(text, "need = ")
+    _, numbers = command_of(lines, "print(")
+    written(os.path.join(room, "planner.py"), "\n".join(printed(text, "import hejslopi") + lines).encode())
+    tally.equal("needs in Python", says("%s planner.py" % shlex.quote(sys.executable), room, PYTHONPATH="python"), (0, numbers + "\n"))
+
+
 def from_scorer(tally, room):
     """The lines that count movement, behind those that make their recipe: what they print, and the picture of the remark."""
     text = section("From Python")
@@ -212,9 +221,9 @@ COMMAND = "python3 python/hejslopi.py"
 
 
 def python_commands(tally, room):
-    """The commands in Python that say what they print: a recipe made, a still filtered, movement counted, a recipe explained."""
+    """The commands in Python that say what they print: a recipe made, a still filtered, what that needs, movement counted, a recipe explained."""
     lines = described(room)
-    for beginning in ("recipe", "filter still.pgm", "movement"):
+    for beginning in ("recipe", "filter still.pgm", "needs", "movement"):
         command, said = command_of(lines, "%s %s" % (COMMAND, beginning))
         tally.equal(command, says(command, room), (0, said + "\n"))
     command, _ = command_of(lines, COMMAND + " explain")
@@ -285,7 +294,7 @@ def outline_kernels(tally, room):
 
 def try_readme(tally):
     """Each example in a folder of its own, so that none finds what another has made. One that is not there is a failure and stops no other."""
-    for example in (from_shell, sizes, recipes, outline_kernels, from_c, c_program, from_python, from_panel, from_scorer, from_viewer, python_commands, python_commands_on, from_rust, rust_program):
+    for example in (from_shell, sizes, recipes, outline_kernels, from_c, c_program, from_python, from_panel, from_planner, from_scorer, from_viewer, python_commands, python_commands_on, from_rust, rust_program):
         with folders.fresh_folder() as room:
             stand_in(room)
             try:

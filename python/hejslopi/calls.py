@@ -202,13 +202,14 @@ def filter_plane(plane: BytesLike, width: int, height: int, recipe: BytesLike) -
     plane, recipe = taken("plane", plane), taken("recipe", recipe)
     width, height = size("width", width), size("height", height)
     stages = read_recipe(recipe).stages
-    right = stages == 1 and are_sides(width, height) and len(plane) == width * height
-    # What is going to be refused for another reason is lent nothing. A plane needs what a still of its size does, and no room for a header.
-    buffers = lent(needs(grey_header(width, height), recipe)) if right else lent()
-    out, result = room(width * height if right else 0), results(1)
-    number = call("hejslopi_filter_plane", recipe, width, height, plane, *buffers, out, result)
-    if number:
+    run = "hejslopi_filter_plane", recipe, width, height, plane
+    # Room is tested last, so a call that is lent nothing gives any other refusal there is.
+    number = call(*run, *lent(), room(0), results(1))
+    if number != ROOM:
         raise Refusal(number, "found stages: %d, a plane of %s by %s, samples: %d" % (stages, *given, len(plane)))
+    # A plane needs what a still of its size does, and no room for a header.
+    out, result = room(width * height), results(1)
+    done(call(*run, *lent(needs(grey_header(width, height), recipe)), out, result), recipe)
     return FilteredPlane(bytes(out), result[0])
 
 

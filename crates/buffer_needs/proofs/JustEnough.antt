@@ -1,11 +1,11 @@
 -- WHAT IS NAMED IS ENOUGH, AND LESS IS NOT: with what `needs` names for a whole still `filter_file` runs, with its T and its length; with less of anything it
 -- refuses with 20. Assumes nothing.
-use Prim.Native.Nat.{ℕ, _+_, _*_, _≤_, _<_}
+use Prim.Native.Nat.{ℕ, _+_, _*_, _<_}
 use native.Mathlib.Omega.{arith}
-use mathlib.Core.Path.{_≡_, refl, sym, ap, _∙_}
+use mathlib.Core.Path.{_≡_, refl, sym, _∙_}
 use mathlib.Core.Bool.{Bool, true, false, cond}
 use mathlib.Core.Logic.{_⊎_, inl, inr}
-use mathlib.Core.List.{List, [], _∷_}
+use mathlib.Core.List.{List}
 use lib.ListN.{length}
 use lib.Dec.{leb}
 use borrow.Author.Tests.{le-leb, lt-leb}
@@ -19,7 +19,6 @@ use Rattle.answers.specs.declared.Needs.the-variants as Needs
 use Rattle.answers.specs.declared.File.{File}
 use Rattle.answers.specs.declared.File.the-variants as File
 use Rattle.still_reader.specs.Head.{headOf}
-use Rattle.still_reader.specs.Read.{stillOf}
 use Rattle.still_reader.proofs.Headed.{read-headed, headed-read}
 use Rattle.recipe.specs.Recipe.{recipeTests, recipeStages}
 use Rattle.room.specs.declared.Lent.{Lent}
@@ -27,7 +26,7 @@ use Rattle.room.specs.Room.{lent, needs, enoughTests, roomTests}
 use Rattle.filter_answers.specs.declared.Limits.{Limits}
 use Rattle.filter_answers.specs.Limits.{archive}
 use Rattle.filter_answers.specs.FileAnswer.{fileSize, pictureAnswer, fileAnswer}
-use Rattle.filter_answers.proofs.FileAccepted.{shown, picture-read, pictured}
+use Rattle.filter_answers.proofs.FileAccepted.{picture-read, pictured}
 use Rattle.filter_answers.proofs.NoLimit.{archive-itself, stages-within, samples-within}
 use Rattle.buffer_needs.specs.NeedsAnswer.{lengths, headNeeds, needsAnswer}
 use Rattle.buffer_needs.proofs.Named.{head-decides}

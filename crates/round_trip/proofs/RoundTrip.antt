@@ -1,16 +1,15 @@
 -- THE ROUND TRIP: what is written reads back as the same picture, and nothing after it. Assumes nothing.
 use Prim.Native.Nat.{ℕ, zero, suc, _+_, _-_, _*_, _/_, _%_, _≤_, _<_}
-use native.Mathlib.Nat.{not-suc-le-zero, le-antisymm}
+use native.Mathlib.Nat.{not-suc-le-zero}
 use native.Mathlib.Omega.{arith}
 use mathlib.Core.Path.{_≡_, refl, sym, ap, _∙_}
-use mathlib.Core.Bool.{Bool, true, false, cond, _&&_}
+use mathlib.Core.Bool.{Bool, true, false, cond}
 use mathlib.Core.Logic.{⊎-elim}
 use mathlib.Core.List.{List, [], _∷_, _++_, append-assoc}
 use lib.ListN.{length, getD, drop, length-append, length-drop}
 use lib.Seq.{drop-at, getD-at}
-use lib.Dec.{ltb, leb, eqb}
-use borrow.Author.Tests.{le-leb, ne-eqb, ltb-true, ltb-false, leb-true}
-use Rattle.refusals.proofs.Passed.{passed}
+use lib.Dec.{ltb, eqb}
+use borrow.Author.Tests.{le-leb, ne-eqb, ltb-true, ltb-false}
 use Rattle.text.specs.Text.{isSpace, gap, isDigit, digits, valueFrom, value}
 use Rattle.header_reader.specs.Header as Spec
 use Rattle.header_reader.specs.Header.{fieldAfter, field, headerOf, heightField, maximumField, header}
@@ -20,7 +19,7 @@ use Rattle.still_reader.specs.Head.{channelsOf, magicTest, headerTests, announc
 use Rattle.still_reader.specs.Read.{stillOf}
 use Rattle.still_reader.proofs.Headed.{headed, read-headed, headed-read}
 use Rattle.header_writer.specs.Heading.{decimalIn, decimal, magicLine, headerBytes}
-use Rattle.answers.specs.declared.Still.the-variants.{Refused, Picture}
+use Rattle.answers.specs.declared.Still.the-variants.{Picture}
 use Rattle.picture_sizes.proofs.PictureSizeLaws.{channels-cases}
 
 -- ---- decimal digits are digits, at least one, and have their number's value
