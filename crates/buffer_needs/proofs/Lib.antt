@@ -1,3 +1,4 @@
 pub mod Named
+pub mod HeaderAlone
 pub mod JustEnough
 pub mod AskFirst

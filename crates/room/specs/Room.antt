@@ -16,8 +16,8 @@ use Rattle.room.specs.declared.Lent.{Lent}
 abbrev pub lent : ℕ → ℕ → ℕ → ℕ → Lent
 lent works rows sums out = record { works = works; rows = rows; sums = sums; out = out }
 
--- what must be lent to filter a frame of W by H by these stages into `size` bytes ('Who causes which refusal'): 2·W·H bytes of work, W·(H+30) row values, as
--- many sums as its box stages need, and the bytes of the output
+-- what must be lent to filter a frame of W by H by these stages into `size` bytes ('Who causes which refusal'): 2·W·H bytes of work, W·(H+30) row values, the sums
+-- of the box stage that needs most (2026-09), and the bytes of the output
 abbrev pub needs : ℕ → ℕ → List Stage → ℕ → Lent
 needs W H ts size = lent (2 * (W * H)) (W * (H + 30)) (sumNeed W ts) size
 
@@ -39,11 +39,11 @@ abbrev pub Kept : {A : Type 0} → Bool → List A → List A → Type 0
 Kept true before after = after ≡ before
 Kept false before after = Unit {0}
 
--- a recipe that is accepted, sides within their limits, and room for its stages
+-- a recipe that is accepted, sides within their limits, and room for its stages, whatever the output
 pub record Sufficient (W H : ℕ) (recipe : List ℕ) (works rows sums : ℕ) : Type 0 where
   pub width : (1 ≤ W) × (W ≤ 8192)
   pub height : (1 ≤ H) × (H ≤ 8192)
   pub accepted : verdict (recipeTests recipe) ≡ Passed
-  pub enough-work : 2 * (W * H) ≤ works
-  pub enough-rows : W * (H + 30) ≤ rows
-  pub enough-sums : sumNeed W (recipeStages recipe) ≤ sums
+  pub enough-work : needs W H (recipeStages recipe) 0 .works ≤ works
+  pub enough-rows : needs W H (recipeStages recipe) 0 .rows ≤ rows
+  pub enough-sums : needs W H (recipeStages recipe) 0 .sums ≤ sums

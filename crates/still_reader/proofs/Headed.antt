@@ -34,6 +34,7 @@ pub record Headed (bytes : List ℕ) (w h c start : ℕ) : Type 0 where
   pub width : isSide w ≡ true
   pub height : isSide h ≡ true
   pub channels : isChannels c ≡ true
+  pub ends : start ≡ 2 + (header (drop 2 bytes)) .size
   pub inside : start ≤ length bytes
 
 pub headed : (bytes : List ℕ) {w h c start : ℕ} → headOf bytes ≡ Picture w h c start → Headed bytes w h c start
@@ -55,6 +56,7 @@ headed bytes {w} {h} {c} {start} e =
       width = sides .0;
       height = sides .1;
       channels = some-channels-are (getD bytes 1 0) (leb-true 1 C (m .1));
+      ends = refl;
       inside = omega (arith, header-inside (drop 2 bytes) (q .0 .0), length-drop 2 bytes);
     })
 

@@ -1,3 +1,4 @@
 pub mod ReadLaws
 pub mod Headed
 pub mod InOneStep
+pub mod Front
