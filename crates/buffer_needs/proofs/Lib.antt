@@ -1,4 +1,3 @@
 pub mod Named
 pub mod HeaderAlone
 pub mod JustEnough
-pub mod AskFirst

@@ -9,6 +9,7 @@ use lib.Dec.{leb, eqb}
 use lib.IntN.{ℤ, pos, _+ℤ_}
 use lib.ListN.{drop, length}
 use borrow.Author.Tests.{leb-true, le-leb, eqb-false, ne-eqb, not-true}
+use Rattle.refusals.proofs.Passed.{between}
 use Rattle.refusals.specs.Refusal.{Test, tested, sizesDiffer, movementLimit, stageLimit, sampleLimit}
 use Rattle.answers.specs.declared.Still.{Still}
 use Rattle.answers.specs.declared.Still.the-variants as Still
@@ -28,17 +29,9 @@ use Rattle.answers.specs.declared.Needs.{Needs}
 use Rattle.answers.specs.declared.Needs.the-variants as Needs
 use Rattle.model.specs.Stage.{Stage}
 use Rattle.model.specs.Tolerance.{tolerance}
-use Rattle.recipe_bytes.specs.Bytes.{at, signed8, there}
-use Rattle.stage_fields.specs.StageFields.{headTests, radiusTests, positionTests}
-use Rattle.axis_fields.specs.AxisFields.{sizesLength, sizeTests, offsetTests, axisTests, realTests, weightTests}
-use Rattle.tap_fields.specs.TapFields.{tapTests}
-use Rattle.gain_tests.specs.Gain.{gainTest}
-use Rattle.recipe_kernels.specs.Kernels.{gainTests, weightedTests}
-use Rattle.recipe_stages.specs.StageBytes.{workTests, stageTests, stageLength}
-use Rattle.recipe.specs.Recipe.{stagesTests, recipeTests, recipeStages, recipeOf}
-use Rattle.header_reader.specs.Header.{Header}
-use Rattle.still_reader.specs.Head.{magicTest, headerTests, announced, headOf}
-use Rattle.still_reader.specs.Read.{rasterTests, withRaster, stillOf}
+use Rattle.recipe.specs.Recipe.{recipeTests, recipeStages, recipeOf}
+use Rattle.still_reader.specs.Head.{headOf}
+use Rattle.still_reader.specs.Read.{stillOf}
 use Rattle.still_writer.specs.Write.{writeTests, writtenOf}
 use Rattle.room.specs.declared.Lent.{Lent}
 use Rattle.room.specs.Room.{lent, roomTests}
@@ -61,6 +54,8 @@ use Rattle.told.specs.Numbers.{Told, refusal, values, Tells, stillTold, written
 use Rattle.capi.specs.Calls.{WritesStill, FiltersPlane, FiltersFile, CountsMovement}
 use Rattle.told_background.specs.Calls.{ChangesBackground, MeansStills}
 use Rattle.call_laws.specs.Success.{Success}
+use Rattle.call_laws.proofs.Numbers as Numbers
+use Rattle.call_laws.proofs.Numbers.{numbered-wider, refused-with, own, recipe-own, head-own, still-own}
 
 -- ---- tests whose numbers are neither 0 nor 28 nor 29
 
@@ -77,105 +72,36 @@ is-not-of-limits n e =
     let k = and-eq-true-iff (not (eqb n stageLimit)) (not (eqb n sampleLimit)) .0 (h .1) in
     (leb-true 1 n (h .0), eqb-false n stageLimit (not-true _ (k .0)), eqb-false n sampleLimit (not-true _ (k .1)))
 
+from-not-of-limits : (n : ℕ) → NotOfLimits n → not-of-limits n ≡ true
+from-not-of-limits n h = rw (le-leb 1 n (h .0), ne-eqb n stageLimit (h .1), ne-eqb n sampleLimit (h .2))
+
+-- a recipe's and a still's own are none
+own-not-of-limits : (n : ℕ) → own n ≡ true → not-of-limits n ≡ true
+own-not-of-limits n e =
+    let h = between 1 n 18 e in
+    rw (le-leb 1 n (h .0), ne-eqb n stageLimit (λ f. omega (arith, h, f)), ne-eqb n sampleLimit (λ f. omega (arith, h, f)))
+
 abbrev numbered : List Test → Bool
-numbered [] = true
-numbered (t ∷ ts) = not-of-limits (t .1) && numbered ts
+numbered = Numbers.numbered not-of-limits
 
 numbered-append : (xs ys : List Test) → numbered xs ≡ true → numbered ys ≡ true → numbered (xs ++ ys) ≡ true
-numbered-append [] ys p q = q
-numbered-append (t ∷ xs) ys p q =
-    let h = and-eq-true-iff (not-of-limits (t .1)) (numbered xs) .0 p in
-    and-eq-true-iff (not-of-limits (t .1)) (numbered (xs ++ ys)) .1 (h .0, numbered-append xs ys (h .1) q)
-
-numbered-cond : (s : Bool) (xs ys : List Test) → numbered xs ≡ true → numbered ys ≡ true → numbered (cond s xs ys) ≡ true
-numbered-cond true xs ys p q = p
-numbered-cond false xs ys p q = q
+numbered-append = Numbers.numbered-append not-of-limits
 
 -- the refusal of such tests, or of the answer after them
-module _ {A : Type 0} (refuse : ℕ → A) (same : (m n : ℕ) → refuse m ≡ refuse n → m ≡ n) where
-  refused-number : (ts : List Test) (answer : A) (n : ℕ) → numbered ts ≡ true → (answer ≡ refuse n → NotOfLimits n) → tested refuse ts answer ≡ refuse n → NotOfLimits n
-  refused-number [] answer n p q e = q e
-  refused-number ((true, m) ∷ ts) answer n p q e = refused-number ts answer n (and-eq-true-iff (not-of-limits m) (numbered ts) .0 p .1) q e
-  refused-number ((false, m) ∷ ts) answer n p q e = rw (same m n e) at (is-not-of-limits m (and-eq-true-iff (not-of-limits m) (numbered ts) .0 p .0))
-
--- ---- the tests of a recipe
-
-offsets-numbered : (least : ℤ) (k : ℕ) (b : List ℕ) → numbered (offsetTests least k b) ≡ true
-unfolding offsetTests there
-offsets-numbered least zero b = refl
-offsets-numbered least (suc k) b = offsets-numbered (signed8 (at b 0) +ℤ pos 1) k (drop 1 b)
-
-axis-numbered : (k : ℕ) (b : List ℕ) → numbered (axisTests k b) ≡ true
-unfolding axisTests
-axis-numbered k b = offsets-numbered _ k b
-
-reals-numbered : (k : ℕ) (b : List ℕ) → numbered (realTests k b) ≡ true
-unfolding realTests there
-reals-numbered zero b = refl
-reals-numbered (suc k) b = reals-numbered k (drop 4 b)
-
-sizes-numbered : (real : Bool) (b : List ℕ) → numbered (sizeTests real b) ≡ true
-unfolding sizeTests there
-sizes-numbered true b = refl
-sizes-numbered false b = refl
-
-weights-numbered : (real : Bool) (k : ℕ) (b : List ℕ) → numbered (weightTests real k b) ≡ true
-unfolding weightTests there
-weights-numbered true k b = reals-numbered k b
-weights-numbered false k b = refl
-
-taps-numbered : (real : Bool) (b : List ℕ) → numbered (tapTests real b) ≡ true
-unfolding tapTests
-taps-numbered real b =
-    numbered-append (sizeTests real b) _ (sizes-numbered real b)
-    (numbered-append (axisTests (at b 0) (drop (sizesLength real) b)) _ (axis-numbered _ _)
-    (numbered-append (axisTests (at b 1) (drop (sizesLength real + at b 0) b)) _ (axis-numbered _ _) (weights-numbered real _ _)))
-
-weighted-numbered : (real : Bool) (b : List ℕ) → numbered (weightedTests real b) ≡ true
-unfolding weightedTests gainTests gainTest
-weighted-numbered real b = numbered-append (tapTests real b) (gainTests real b) (taps-numbered real b) refl
-
-work-numbered : (kind : ℕ) (b : List ℕ) → numbered (workTests kind b) ≡ true
-unfolding workTests radiusTests positionTests there
-work-numbered kind b =
-    numbered-cond (eqb kind 1) (weightedTests false b) _ (weighted-numbered false b)
-    (numbered-cond (eqb kind 2) (weightedTests true b) _ (weighted-numbered true b)
-    (numbered-cond (eqb kind 5) (radiusTests b ++ positionTests b) _ refl
-    (numbered-cond (eqb kind 6) [] (radiusTests b) refl refl)))
-
-stage-numbered : (b : List ℕ) → numbered (stageTests b) ≡ true
-unfolding stageTests headTests there
-stage-numbered b = numbered-append (headTests b) (workTests (at b 0) (drop 3 b)) refl (work-numbered (at b 0) (drop 3 b))
-
-stages-numbered : (k : ℕ) (b : List ℕ) → numbered (stagesTests k b) ≡ true
-unfolding stagesTests
-stages-numbered zero b = refl
-stages-numbered (suc k) b = numbered-append (stageTests b) (stagesTests k (drop (stageLength b) b)) (stage-numbered b) (stages-numbered k (drop (stageLength b) b))
+refused-number : {A : Type 0} (refuse : ℕ → A) → ((m n : ℕ) → refuse m ≡ refuse n → m ≡ n) → (ts : List Test) (answer : A) (n : ℕ) → numbered ts ≡ true → (answer ≡ refuse n → NotOfLimits n)
+    → tested refuse ts answer ≡ refuse n → NotOfLimits n
+refused-number refuse same ts answer n p q e = is-not-of-limits n (refused-with not-of-limits refuse same ts answer n p (λ f. from-not-of-limits n (q f)) e)
 
 recipe-numbered : (b : List ℕ) → numbered (recipeTests b) ≡ true
-unfolding recipeTests there
-recipe-numbered b = stages-numbered (at b 0) (drop 1 b)
+recipe-numbered b = numbered-wider own not-of-limits own-not-of-limits (recipeTests b) (recipe-own b)
 
 -- ---- the calls of document 01
 
-never-refused : {w h c s : ℕ} (n : ℕ) → Still.Picture w h c s ≡ Still.Refused n → NotOfLimits n
-never-refused n f = let z : _≡_ {A = ℕ} 0 1 = cc in absurd (omega arith)
-
-announced-number : (c : ℕ) (h : Header) (n : ℕ) → announced c h ≡ Still.Refused n → NotOfLimits n
-unfolding announced headerTests
-announced-number c h n e = refused-number Still.Refused (λ m k f. cc) (headerTests h) (Still.Picture _ _ _ _) n refl (never-refused n) e
-
-pub read-head-number : (bytes : List ℕ) (n : ℕ) → headOf bytes ≡ Still.Refused n → NotOfLimits n
-unfolding headOf magicTest
-read-head-number bytes n e = refused-number Still.Refused (λ m k f. cc) (magicTest bytes ∷ []) (announced _ _) n refl (announced-number _ _ n) e
-
-raster-number : (total : ℕ) (s : Still) (n : ℕ) → ((k : ℕ) → s ≡ Still.Refused k → NotOfLimits k) → withRaster total s ≡ Still.Refused n → NotOfLimits n
-raster-number total (Still.Refused k) n h e = let d : k ≡ n = cc in rw d at (h k refl)
-raster-number total (Still.Picture W H c start) n h e = refused-number Still.Refused (λ m k f. cc) (rasterTests (W * H * c) (total - start)) (Still.Picture W H c start) n refl (never-refused n) e
+read-head-number : (bytes : List ℕ) (n : ℕ) → headOf bytes ≡ Still.Refused n → NotOfLimits n
+read-head-number bytes n e = is-not-of-limits n (own-not-of-limits n (head-own bytes n e))
 
 pub read-still-number : (bytes : List ℕ) (n : ℕ) → stillOf bytes ≡ Still.Refused n → NotOfLimits n
-unfolding stillOf
-read-still-number bytes n e = raster-number (length bytes) (headOf bytes) n (read-head-number bytes) e
+read-still-number bytes n e = is-not-of-limits n (own-not-of-limits n (still-own bytes n e))
 
 pub write-still-number : (W H c raster room n : ℕ) → writtenOf W H c raster room ≡ Written.Refused n → NotOfLimits n
 unfolding writtenOf writeTests
@@ -279,7 +205,7 @@ mean-still-number rasters labels out b n e = go (eqb (stills b) 0) e
         other f = let z : _≡_ {A = ℕ} 0 1 = cc in absurd (omega arith)
 
 refusal-numbered : (a : File) → ((n : ℕ) → a ≡ File.Refused n → NotOfLimits n) → numbered (refusalTests a) ≡ true
-refusal-numbered (File.Refused n) h = let u = h n refl in rw (le-leb 1 n (u .0), ne-eqb n stageLimit (u .1), ne-eqb n sampleLimit (u .2))
+refusal-numbered (File.Refused n) h = rw (from-not-of-limits n (h n refl))
 refusal-numbered (File.Picture W H c T n) h = refl
 
 run-number : (r : Run) (n : ℕ) → asked r ≡ File.Refused n → NotOfLimits n
