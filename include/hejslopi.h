@@ -111,8 +111,7 @@ static inline const char *hejslopi_meaning(uint32_t number)
     }
 }
 
-/* How many elements must be lent for a picture of w by h, where it is known when a program is compiled. For a still and a recipe that are read
- * while it runs, hejslopi_needs says it.
+/* How many elements must be lent for a picture of w by h. (hejslopi_needs gives just what a still and a recipe need.)
  * SUMS is for one box stage of radii r, s: a recipe needs the largest of its box stages, 0 if it has none. SUMS_ANY is enough
  * for every recipe. Neither depends on h, which stays among their arguments so that programs are compiled as before. FILE_ANY is enough for every file of w by h: its header has at most 17 bytes. A plane's output needs w*h.
  * BACKGROUND_RASTERS and BACKGROUND_LABELS are for a background of k stills, at most 1,000. */
@@ -151,11 +150,10 @@ uint32_t hejslopi_write_still(size_t width, size_t height, size_t channels,
  * Refusals: 10 to 18. */
 uint32_t hejslopi_read_recipe(const uint8_t *bytes, size_t bytes_len, uint64_t result[2]);
 
-/* What hejslopi_filter_file needs to filter a still by a recipe, without filtering: so that a program can set memory aside first.
- * Of the still only the header is looked at: a raster that is short, long or missing does not matter.
- * result: how many bytes of work, how many rows, how many sums and how many bytes of out must be lent, and T. A still with its whole raster and
- * nothing after it is filtered with just these, into just so many bytes and with this T; with one element less of any, hejslopi_filter_file
- * refuses with 20.
+/* What hejslopi_filter_file needs to filter a still by a recipe, without filtering: for programs that allocate while they run.
+ * Of the still the header decides alone: behind it there may be too few samples, too many or none.
+ * result: how many bytes of work, how many rows, how many sums and how many bytes of out must be lent, and T. A still that
+ * hejslopi_read_still accepts is filtered with just these, into just so many bytes and with this T; if a buffer is shorter, the answer is 20.
  * Refusals: 10 to 18, then 1 to 4. */
 uint32_t hejslopi_needs(const uint8_t *recipe, size_t recipe_len,
                         const uint8_t *still, size_t still_len, uint64_t result[5]);

@@ -105,7 +105,7 @@ class Vectors(unittest.TestCase):
                 "now = int(open('/proc/self/statm').read().split()[0]) * resource.getpagesize()\n"
                 "resource.setrlimit(resource.RLIMIT_AS, (now + (16 << 20), now + (16 << 20)))\n"
                 "assert hejslopi.needs(still, recipe) == (134217728, 67354624, 8223 * 32, 67108881, 32768)\n"
-                "try:\n    hejslopi.filter_file(still, recipe)\nexcept hejslopi.Refusal as refusal:\n    assert refusal.number == 5\n")
+                "try:\n    hejslopi.filter_file(still, recipe)\nexcept hejslopi.Refusal as refusal:\n    assert refusal.number == 5\nelse:\n    raise SystemExit('not refused')\n")
         here = os.path.dirname(os.path.abspath(__file__))
         done = subprocess.run([sys.executable, "-c", code], cwd=here, stderr=subprocess.PIPE, universal_newlines=True)
         self.assertEqual((done.returncode, done.stderr), (0, ""))

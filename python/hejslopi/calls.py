@@ -32,7 +32,7 @@ class Recipe(NamedTuple):
 
 
 class Needs(NamedTuple):
-    """How many work bytes, row values and sums a run is lent, how many bytes it writes, and its tolerance T in 65,536ths of a grey level."""
+    """How many work bytes, row values and sums a run must be lent, how many bytes it writes, and its tolerance T in 65,536ths of a grey level."""
     work: int
     rows: int
     sums: int
@@ -184,11 +184,11 @@ def read_recipe(recipe: BytesLike) -> Recipe:
 
 
 def needs(still: BytesLike, recipe: BytesLike) -> Needs:
-    """What a still and a recipe need, without filtering: the length of each buffer that is lent to a run, how many bytes it writes, and its T.
+    """What a still and a recipe need, without filtering: the length of each buffer that a run must be lent, how many bytes it writes, and its T.
 
         work, rows, sums, out, T = hejslopi.needs(still, recipe)
 
-    Of the still only the header is looked at: a raster that is short, long or missing does not matter. A still that `filter_file` takes needs just these, and comes
+    Of the still the header decides alone: behind it there may be too few samples, too many or none. A still that `filter_file` takes needs just these, and comes
     out with just this T and length.
     """
     still, recipe, result = taken("still", still), taken("recipe", recipe), results(5)

@@ -25,8 +25,8 @@ impl Needs {
     }
 }
 
-/// What a run of [`filter_file_into`](crate::filter_file_into) needs, without filtering. Of the still only the header is looked at: a raster that is short, long
-/// or missing does not matter.
+/// What a run of [`filter_file_into`](crate::filter_file_into) needs, without filtering. Of the still the header decides alone: behind it there may be
+/// too few samples, too many or none.
 ///
 /// ```
 /// let recipe = [1, 4, 1, 0, 1, 2]; // one stage: box, nearest, radius 1 across and 2 down
@@ -48,7 +48,8 @@ pub fn needs(recipe: &[u8], still: &[u8]) -> Result<Needs, Refusal> {
     })
 }
 
-/// What a run of [`filter_plane_into`](crate::filter_plane_into) needs: that of a still of this size, and no room for a header.
+/// What a run of [`filter_plane_into`](crate::filter_plane_into) needs: what a still of this size does, and no room for a header. A recipe of several stages, which that
+/// call refuses, is not refused here.
 pub fn plane_needs(recipe: &[u8], width: usize, height: usize) -> Result<Needs, Refusal> {
     let of_still = needs(recipe, format!("P5\n{width} {height}\n255\n").as_bytes())?;
     Ok(Needs {

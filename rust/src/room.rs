@@ -7,13 +7,6 @@ pub struct Lent<'a> {
     pub sums: &'a mut [u32],
 }
 
-/// How many elements must be lent to a background: bytes of rasters, and labels.
-#[derive(Clone, Copy, Debug, PartialEq, Eq)]
-pub struct BackgroundNeeds {
-    pub rasters: usize,
-    pub labels: usize,
-}
-
 impl Lent<'_> {
     /// Nothing at all. Room is tested last, so a call that is lent nothing gives any other refusal there is.
     pub fn nothing() -> Lent<'static> {
@@ -23,6 +16,13 @@ impl Lent<'_> {
             sums: &mut [],
         }
     }
+}
+
+/// How many elements must be lent to a background: bytes of rasters, and labels.
+#[derive(Clone, Copy, Debug, PartialEq, Eq)]
+pub struct BackgroundNeeds {
+    pub rasters: usize,
+    pub labels: usize,
 }
 
 /// Allocated buffers, to be lent to any number of calls. One that there was no memory for is empty: a call that needs it refuses with
@@ -61,20 +61,16 @@ pub(crate) fn zeros<T: Clone + Default>(count: usize) -> Vec<T> {
     all
 }
 
-fn sides(width: usize, height: usize) -> Result<(), Refusal> {
+fn picture(width: usize, height: usize, channels: usize) -> Result<(), Refusal> {
+    if channels != 1 && channels != 3 {
+        return Err(Refusal::Channels);
+    }
     let fits = |n: usize| (1..=8192).contains(&n);
     if fits(width) && fits(height) {
         Ok(())
     } else {
         Err(Refusal::Side)
     }
-}
-
-fn picture(width: usize, height: usize, channels: usize) -> Result<(), Refusal> {
-    if channels != 1 && channels != 3 {
-        return Err(Refusal::Channels);
-    }
-    sides(width, height)
 }
 
 /// How many bytes a file of this size has: header and raster.

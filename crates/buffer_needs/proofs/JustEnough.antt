@@ -98,6 +98,6 @@ module _ (recipe still : List ℕ) {works rows sums out T : ℕ} (named : needsA
   pub just-enough : fileAnswer archive recipe still (lent works rows sums out) ≡ File.Picture W H c T out
   just-enough = named-decides (lent works rows sums out) ∙ just-passes (lent works rows sums out) (File.Picture W H c T out)
 
-  -- one element less in any that is not zero, or fewer still
+  -- where some length is below what was named, by one element or more
   pub too-little : (l : Lent) → Short (lent works rows sums out) l → fileAnswer archive recipe still l ≡ File.Refused room
   too-little l h = named-decides l ∙ short-refused (lent works rows sums out) l (File.Picture W H c T out) h

@@ -1,8 +1,8 @@
--- Worked examples of needs. A row names the cases, what the definitions give, and what they should give: one refusal, or work bytes, row values, sums, bytes of output
+-- Worked examples of needs. A row names the cases, what the definitions give, and what they should give: a refusal of each, or work bytes, row values, sums, bytes of output
 -- and T. The theorem at the end goes over all rows.
 use Prim.Native.Nat.{ℕ}
 use Prim.Native.String.{String}
-use mathlib.Core.List.{List, [], _∷_, map}
+use mathlib.Core.List.{List, [], _∷_, _++_, map}
 use mathlib.Core.Path.{_≡_, refl}
 use mathlib.Core.Bool.{false}
 use Rattle.refusals.specs.Refusal as Refusal
@@ -56,7 +56,7 @@ rows =
     ∷ row "of three boxes the one in the middle holds most" (needed (box 1 0 ∷ box 2 2 ∷ box 0 1 ∷ []) (head 5 4 1)) (40 ∷ 170 ∷ 60 ∷ 31 ∷ 98304 ∷ [])
     ∷ row "T is that of all stages: an outline multiplies what the box before it added" (needed (box 0 0 ∷ outline ∷ []) (head 10 9 1)) (180 ∷ 390 ∷ 22 ∷ 102 ∷ 196608 ∷ [])
     ∷ row "the header's refusal" (needed (outline ∷ []) (Still.Refused 3)) (3 ∷ [])
-    ∷ row "the recipe's comes before it, and before what the header says" (numbers (recipeNeeds unknown (doing (outline ∷ [])) (Still.Refused 3))) (13 ∷ [])
+    ∷ row "the recipe's comes before it, and before what an accepted header needs" (numbers (recipeNeeds unknown (doing (outline ∷ [])) (Still.Refused 3)) ++ numbers (recipeNeeds unknown (doing (outline ∷ [])) (head 3 1 1))) (13 ∷ 13 ∷ [])
     ∷ []
 
 -- every definition that an example runs through, opened by one name

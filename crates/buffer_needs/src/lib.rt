@@ -36,7 +36,7 @@ fn head_needs(recipe: &[u8], tolerance: u64, still: &[u8]) -> Needs
     }
 }
 
-// What must be lent, the output's length and T; or the recipe's refusal, or the header's, 1 to 4. A raster that is short, long or missing does not matter.
+// What must be lent, the output's length and T; or the recipe's refusal, or the header's, 1 to 4. What follows the header is not tested.
 pub fn needs(bytes: &[u8], still: &[u8]) -> Needs
     ensures { λ r. ⌜ r ≡ needsAnswer (now (bytes .entry)) (now (still .entry)) ⌝ }
 {

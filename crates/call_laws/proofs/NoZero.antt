@@ -1,13 +1,13 @@
 -- NO REFUSAL'S NUMBER IS 0, of none of the ten calls: so a C caller who gets 0 has the answer. And 28 and 29 come of a caller's limits alone, never of the archive's. Assumes nothing.
-use Prim.Native.Nat.{ℕ, zero, suc, _+_, _-_, _*_, _≤_}
+use Prim.Native.Nat.{ℕ, _≤_}
 use native.Mathlib.Omega.{arith}
 use mathlib.Core.Path.{_≡_, refl, sym, _∙_}
 use mathlib.Core.Logic.{inl, inr}
 use mathlib.Core.Bool.{Bool, true, false, cond, not, _&&_, and-eq-true-iff}
-use mathlib.Core.List.{List, [], _∷_, _++_}
+use mathlib.Core.List.{List, _∷_, _++_}
 use lib.Dec.{leb, eqb}
-use lib.IntN.{ℤ, pos, _+ℤ_}
-use lib.ListN.{drop, length}
+use lib.IntN.{ℤ}
+use lib.ListN.{length}
 use borrow.Author.Tests.{leb-true, le-leb, eqb-false, ne-eqb, not-true}
 use Rattle.refusals.proofs.Passed.{between}
 use Rattle.refusals.specs.Refusal.{Test, tested, sizesDiffer, movementLimit, stageLimit, sampleLimit}

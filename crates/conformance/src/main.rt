@@ -3,7 +3,7 @@
 // `FOLDER file LENT` filters a folder's `still` by its `recipe`, and `FOLDER plane LENT W H FROM SKIP` what that still has from place FROM on. The output has to
 // be the folder's `out`, without its first SKIP bytes. LENT are four lengths: work bytes, row values, sums and output bytes. `FOLDER keep` runs a folder's `script`.
 // `FOLDER movement LIMIT LENT` compares a folder's two stills; here LENT has a length for each of both outputs.
-// `FOLDER needs` asks what a folder's still and recipe need. Such a folder has no `out`, so a call on its file is shown with the length of what it wrote.
+// `FOLDER needs` asks what a folder's still and recipe need. Where a folder has no `out`, an accepted call on its file is shown with the length of what it wrote.
 // `FOLDER limited LENT` is `FOLDER file LENT` with the panel's limits in place of the archive's.
 mod calls;
 

@@ -1,14 +1,14 @@
 -- A HEADER ENDS WHERE IT ENDS: it is that of every text with the same bytes up to there. Assumes nothing.
 use Prim.Native.Nat.{ℕ, _+_, _-_, _≤_, _<_}
 use native.Mathlib.Omega.{arith}
-use mathlib.Core.Path.{_≡_, refl, sym, ap, _∙_}
+use mathlib.Core.Path.{_≡_, sym, ap, _∙_}
 use mathlib.Core.Bool.{false}
 use mathlib.Core.List.{List}
-use lib.ListN.{length, getD, drop, take}
+use lib.ListN.{getD, drop, take}
 use lib.Seq.{getD-take}
 use Rattle.text.specs.Text.{gap, digits}
 use Rattle.text.proofs.Front.{drop-front, gap-front, digits-front}
-use Rattle.header_reader.specs.Header.{Field, fieldAfter, field, headerOf, heightField, maximumField, header}
+use Rattle.header_reader.specs.Header.{fieldAfter, field, headerOf, heightField, maximumField, header}
 
 -- a field that ends before place n
 pub field-front : (n : ℕ) (xs ys : List ℕ) → (field xs) .size < n → take n xs ≡ take n ys → field ys ≡ field xs
