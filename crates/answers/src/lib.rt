@@ -1,7 +1,8 @@
 // What the calls answer: a refusal's number, or what was asked for.
+#![tactic(auto)]
 
 // Read a still: its size, and at which byte the raster begins.
-#[derive(Drop)]
+#[derive(Clone, Copy)]
 pub enum Still {
     Refused(u8),
     Picture {
@@ -13,28 +14,28 @@ pub enum Still {
 }
 
 // Write a still: the output's length.
-#[derive(Drop)]
+#[derive(Clone, Copy)]
 pub enum Written {
     Refused(u8),
     Length(usize),
 }
 
 // Read a recipe: S and T.
-#[derive(Drop)]
+#[derive(Clone, Copy)]
 pub enum Recipe {
     Refused(u8),
     Stages { count: u8, tolerance: u64 },
 }
 
 // Filter a plane: T.
-#[derive(Drop)]
+#[derive(Clone, Copy)]
 pub enum Filtered {
     Refused(u8),
     Tolerance(u64),
 }
 
 // Filter a file: the picture's size, T and the output's length.
-#[derive(Drop)]
+#[derive(Clone, Copy)]
 pub enum File {
     Refused(u8),
     Picture {
@@ -47,7 +48,7 @@ pub enum File {
 }
 
 // What must be lent to filter a still: the lengths of the work bytes, the row values, the sums and the output; and T.
-#[derive(Drop)]
+#[derive(Clone, Copy)]
 pub enum Needs {
     Refused(u8),
     Lengths {
@@ -60,7 +61,7 @@ pub enum Needs {
 }
 
 // What a background holds: how many stills, and the size of each. Of an empty one no size is looked at.
-#[derive(Drop)]
+#[derive(Clone, Copy)]
 pub struct Held {
     pub count: usize,
     pub width: usize,
@@ -69,14 +70,14 @@ pub struct Held {
 }
 
 // Add a still to a background, or remove one: what is held afterwards.
-#[derive(Drop)]
+#[derive(Clone, Copy)]
 pub enum Changed {
     Refused(u8),
     Holds(Held),
 }
 
 // The mean of a background: of how many stills, its T and the output's length; or that none are held.
-#[derive(Drop)]
+#[derive(Clone, Copy)]
 pub enum Mean {
     Refused(u8),
     NoStills,
@@ -88,7 +89,7 @@ pub enum Mean {
 }
 
 // The movement between two stills: how many samples have surely moved, are surely still and are open, both T, and the length of each output.
-#[derive(Drop)]
+#[derive(Clone, Copy)]
 pub enum Movement {
     Refused(u8),
     Counts {
@@ -102,7 +103,7 @@ pub enum Movement {
 }
 
 // Judge a still that was filtered elsewhere: whether each of its samples is near enough.
-#[derive(Drop)]
+#[derive(Clone, Copy)]
 pub enum Judged {
     Refused(u8),
     Verdict(bool),

@@ -1,5 +1,7 @@
 // Summed-area tables: the running sums of a frame that is extended by a window's radii, row by row. 2s+2 of them are held: a window's
 // upper edge, its lower edge and all between.
+#![tactic(auto)]
+
 ghost use Rattle.std.specs.Prelude.{◌≡◌, ◌++◌, ◌+◌, ◌*◌, ◌≤◌, length, drop};
 ghost use Rattle.lists.specs.Tabulate.{tabulate};
 ghost use Rattle.frame.specs.Framed.{Framed};

@@ -40,7 +40,7 @@ axis_tests k b = offset_tests (neg_ℤ (pos 15)) k b
 -- the tests of k real weights, four bytes each: which are accepted is said in crate `weights`
 unfoldable pub real_tests : ℕ → List ℕ → List Test
 real_tests zero b = []
-real_tests (suc k) b = there 4 b ∷ (accepted (bits b 0), Refusal.realWeight) ∷ real_tests k (drop 4 b)
+real_tests (suc k) b = there 4 b ∷ (accepted (bits b 0), Refusal.real_weight) ∷ real_tests k (drop 4 b)
 
 -- the tests of k weights: those of ratios, two bytes each, only have to be there
 unfoldable pub weight_tests : Bool → ℕ → List ℕ → List Test

@@ -1,4 +1,6 @@
 // The tests of the fields of an axis of weights: sizes, offsets, weights. Each takes a part that begins with its first field.
+#![tactic(auto)]
+
 ghost use Rattle.std.specs.Prelude.{◌≡◌, ◌+◌, ◌≤◌, ◌<◌, leb};
 ghost use Rattle.refusals.specs.Refusal.{verdict};
 ghost use Rattle.recipe_bytes.specs.Bytes.{at, word, field};

@@ -23,9 +23,9 @@ suits W H c h = eqb h.count 0 || (eqb h.width W && eqb h.height H && eqb h.chann
 unfoldable pub add_tests : ℕ → ℕ → ℕ → ℕ → ℕ → ℕ → Background → List Test
 add_tests n W H c bytes words b =
     (held_room (held_of b) bytes words, Refusal.room)
-    ∷ (not (present n b), Refusal.stillNumber)
-    ∷ (suits W H c (held_of b), Refusal.stillSize)
-    ∷ (ltb (stills b) 1000, Refusal.backgroundFull)
+    ∷ (not (present n b), Refusal.still_number)
+    ∷ (suits W H c (held_of b), Refusal.still_size)
+    ∷ (ltb (stills b) 1000, Refusal.background_full)
     ∷ (room_for (suc (stills b)) (W * H * c) bytes words, Refusal.room)
     ∷ []
 
@@ -45,7 +45,7 @@ addition file n T bytes words b = addition_of (still_of file) file n T bytes wor
 
 -- the tests of a removal: room for the stills held, the number
 unfoldable pub remove_tests : ℕ → ℕ → ℕ → Background → List Test
-remove_tests n bytes words b = (held_room (held_of b) bytes words, Refusal.room) ∷ (present n b, Refusal.stillNumber) ∷ []
+remove_tests n bytes words b = (held_room (held_of b) bytes words, Refusal.room) ∷ (present n b, Refusal.still_number) ∷ []
 
 -- without the member at place i: the last moves into the gap
 unfoldable pub without : ℕ → List Member → List Member

@@ -1,1 +1,2 @@
 // The background of document 02 as definitions: no code.
+#![tactic(auto)]

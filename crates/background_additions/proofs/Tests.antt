@@ -28,9 +28,9 @@ use Rattle.background_slots.proofs.Holding.{slot_of, stills_in, held_in_lem, num
 module _ (n bytes words : ℕ) (h : Held) (rasters labels : List ℕ) where
   pub add_tests_in : (W H c : ℕ) → add_tests n W H c bytes words (background_in h rasters labels)
       ≡ (held_room h bytes words, Refusal.room)
-      ∷ (not (ltb (slot_of n labels h.count) h.count), Refusal.stillNumber)
-      ∷ (suits W H c h, Refusal.stillSize)
-      ∷ (ltb h.count 1000, Refusal.backgroundFull)
+      ∷ (not (ltb (slot_of n labels h.count) h.count), Refusal.still_number)
+      ∷ (suits W H c h, Refusal.still_size)
+      ∷ (ltb h.count 1000, Refusal.background_full)
       ∷ (room_for (h.count + 1) (W * H * c) bytes words, Refusal.room)
       ∷ []
   unfolding add_tests present

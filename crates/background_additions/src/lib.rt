@@ -1,4 +1,6 @@
 // Adds a still to a background.
+#![tactic(auto)]
+
 ghost use Rattle.std.specs.Prelude.{◌≡◌, ◌+◌, ◌*◌, ◌≤◌, length};
 ghost use Rattle.refusals.specs.Refusal.{tested, verdict};
 ghost use Rattle.background.specs.Background.{member};
@@ -10,7 +12,7 @@ use answers::{Changed, Held, Still};
 use refusals::Verdict;
 
 // The size of a still to be added.
-#[derive(Drop)]
+#[derive(Clone, Copy)]
 struct Size {
     width: usize,
     height: usize,

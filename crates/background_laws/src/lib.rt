@@ -1,1 +1,2 @@
 // What is proved of the background's definitions: no code.
+#![tactic(auto)]

@@ -13,6 +13,6 @@ use Rattle.background_slots.proofs.Holding.{slot_of, stills_in, held_in_lem, num
 
 module _ (n bytes words : ℕ) (h : Held) (rasters labels : List ℕ) where
   pub remove_tests_in : remove_tests n bytes words (background_in h rasters labels)
-      ≡ (held_room h bytes words, Refusal.room) ∷ (ltb (slot_of n labels h.count) h.count, Refusal.stillNumber) ∷ []
+      ≡ (held_room h bytes words, Refusal.room) ∷ (ltb (slot_of n labels h.count) h.count, Refusal.still_number) ∷ []
   unfolding remove_tests present
   remove_tests_in = rw (held_in_lem h rasters labels, numbers_in h rasters labels, stills_in h rasters labels)

@@ -1,4 +1,6 @@
 // Removes a still from a background.
+#![tactic(auto)]
+
 ghost use Rattle.std.specs.Prelude.{◌≡◌, ◌+◌, ◌*◌, ◌≤◌, length, get_or};
 ghost use Rattle.refusals.specs.Refusal.{tested};
 ghost use Rattle.background.specs.Background.{numbers, position};
@@ -10,7 +12,7 @@ ghost use Rattle.background_removals.specs.declared.Found.TheVariants as Found;
 use answers::{Changed, Held};
 
 // Where a removal finds its still.
-#[derive(Drop)]
+#[derive(Clone, Copy)]
 enum Found {
     Refused(u8),
     Slot(usize),

@@ -1,47 +1,51 @@
 // The two examples of weights into 65,536ths, as request 2026-06 has them, run: whether each weight that comes out is the paper's.
-use libc::STDOUT_FILENO;
-use refusals::Verdict;
+#![tactic(auto)]
 
-fn say(text: &[u8]) {
-    io::write_all(STDOUT_FILENO, text);
+use refusals::Verdict;
+use std::io;
+
+fn say(rt: &impl Print, text: &[u8]) -> io::Result<()> {
+    rt.write_all(text)
 }
 
-fn compare(found: i32, wanted: i32) {
+fn compare(rt: &impl Print, found: i32, wanted: i32) -> io::Result<()> {
     if found == wanted {
-        say(b" yes");
+        say(rt, b" yes")
     } else {
-        say(b" no");
+        say(rt, b" no")
     }
 }
 
 // A stage of ratios after its header bytes, three over 3 at -1 0 1 across and 1 over 1 at 0 down: its weights across, against three that are wanted.
-fn show(part: &[u8], a: i32, b: i32, c: i32) {
+fn show(rt: &impl Print, part: &[u8], a: i32, b: i32, c: i32) -> io::Result<()> {
     match recipe_kernels::tests(part, false) {
-        Verdict::Refused(_) => say(b" refused"),
+        Verdict::Refused(_) => say(rt, b" refused")?,
         Verdict::Passed => {
             let axis = kernels::axis_of(recipe_kernels::kernel_on(part, false, 0));
             let weights = axis.weights;
-            compare(weights[0], a);
-            compare(weights[1], b);
-            compare(weights[2], c);
+            compare(rt, weights[0], a)?;
+            compare(rt, weights[1], b)?;
+            compare(rt, weights[2], c)?;
         }
     }
-    say(b"\n");
+    say(rt, b"\n")
 }
 
-fn main() {
-    say(b"1 1 1 over 3: 21845 21846 21845");
+fn main(rt: HostRuntime) -> io::Result<()> {
+    say(&rt, b"1 1 1 over 3: 21845 21846 21845")?;
     show(
+        &rt,
         b"\x03\x01\x00\x03\x00\x01\xff\x00\x01\x00\x00\x01\x00\x01\x00\x01\x00\x01",
         21845,
         21846,
         21845,
-    );
-    say(b"-1 -1 5 over 3: -21845 -21845 109226");
+    )?;
+    say(&rt, b"-1 -1 5 over 3: -21845 -21845 109226")?;
     show(
+        &rt,
         b"\x03\x01\x00\x03\x00\x01\xff\x00\x01\x00\xff\xff\xff\xff\x00\x05\x00\x01",
         -21845,
         -21845,
         109226,
-    );
+    )
 }

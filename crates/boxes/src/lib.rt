@@ -1,4 +1,6 @@
 // Box stages: a row of means is made as soon as the lower edge of its windows is among the running sums, and the next row of sums takes the upper edge's place.
+#![tactic(auto)]
+
 ghost use Rattle.std.specs.Prelude.{◌≡◌, ◌+◌, ◌*◌, ◌≤◌, length, take};
 ghost use Rattle.model.specs.Box.{box_result};
 ghost use Rattle.frame.specs.Framed.{Framed, worked};

@@ -1,4 +1,6 @@
 // What a run of `filter_file` must be lent, how many bytes it writes and its tolerance, from a still's header and a recipe.
+#![tactic(auto)]
+
 ghost use Rattle.std.specs.Prelude.{◌≡◌};
 ghost use Rattle.refusals.specs.Refusal.{verdict};
 ghost use Rattle.refusals.specs.declared.Verdict.TheVariants.{Passed};

@@ -1,4 +1,6 @@
 // Bytes moved and set at the front of a lent buffer.
+#![tactic(auto)]
+
 ghost use Rattle.std.specs.Prelude.{◌≡◌, ◌++◌, ◌≤◌, length, take, drop};
 ghost use Rattle.lists.specs.Tabulate.{tabulate};
 

@@ -92,7 +92,7 @@ abbrev numbered : List Test → Bool
 numbered = Numbers.numbered not_of_limits
 
 numbered_append : (xs ys : List Test) → numbered xs ≡ true → numbered ys ≡ true → numbered (xs ++ ys) ≡ true
-numbered_append = Numbers.numbered-append not_of_limits
+numbered_append = Numbers.numbered_append not_of_limits
 
 -- the refusal of such tests, or of the answer after them
 refused-number : {A : Type 0} (refuse : ℕ → A) → ((m n : ℕ) → refuse m ≡ refuse n → m ≡ n) → (ts : List Test) (answer : A) (n : ℕ) → numbered ts ≡ true → (answer ≡ refuse n → NotOfLimits n)

@@ -1,1 +1,2 @@
 // What the calls' contracts come to, for whoever calls them: no code.
+#![tactic(auto)]

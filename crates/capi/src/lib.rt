@@ -1,4 +1,6 @@
 // The calls for C and Rust. Each gives the refusal's number, or 0 and its numbers in a lent array.
+#![tactic(auto)]
+
 ghost use Rattle.std.specs.Prelude.{length};
 ghost use Rattle.still_reader.specs.Read.{still_of};
 ghost use Rattle.recipe.specs.Recipe.{recipe_of};

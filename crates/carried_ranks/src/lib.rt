@@ -1,5 +1,7 @@
 // Rank stages of any window: how often each grey level occurs in it gives its p-th smallest sample. The counts are carried along the row, and so is the level
 // that was found.
+#![tactic(auto)]
+
 ghost use Rattle.std.specs.Prelude.{◌≡◌, ◌++◌, ℕ, ◌+◌, ◌-◌, ◌*◌, ◌≤◌, ◌<◌, length, take, drop};
 ghost use Rattle.lists.specs.Tabulate.{tabulate};
 ghost use Rattle.model.specs.Window.{area};

@@ -1,4 +1,6 @@
 // One channel of a raster, taken out of it and put into one.
+#![tactic(auto)]
+
 ghost use Rattle.std.specs.Prelude.{◌≡◌, cond, ◌&&◌, ◌++◌, ℕ, ◌+◌, ◌*◌, ◌/◌, ◌%◌, ◌≤◌, ◌<◌, length, get_or, drop, eqb, ltb};
 ghost use Rattle.channels.specs.Channel.{channel};
 

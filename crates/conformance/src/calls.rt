@@ -2,10 +2,11 @@
 use answers::{File, Filtered};
 use filter_answers::Limits;
 use room::Lent;
+use std::io;
 use trial::outcome;
 
 // Which call is made on some bytes: on a file's, with these limits, or on the samples of a plane with these sides.
-#[derive(Drop)]
+#[derive(Clone, Copy)]
 pub enum Asked {
     File(Limits),
     Plane(usize, usize),
@@ -48,6 +49,7 @@ fn ask(
 }
 
 fn call_on(
+    rt: &impl Print,
     asked: Asked,
     recipe: &[u8],
     bytes: &[u8],
@@ -56,15 +58,22 @@ fn call_on(
     rows: &mut [i32],
     sums: &mut [u32],
     out: &mut [u8],
-) {
+) -> io::Result<()> {
     junk::fill(work, rows, sums, out);
     let answer = ask(asked, recipe, bytes, work, rows, sums, out);
-    outcome::show(answer, wanted, work, rows, sums, out);
+    outcome::show(rt, answer, wanted, work, rows, sums, out)
 }
 
 // One call, its answer and what it left. No more is lent than the program of document 01 lends, but for row values: as many as 8,192 by 2 needs. For more the line lacks
 // an answer.
-pub fn call(lent: Lent, asked: Asked, recipe: &[u8], bytes: &[u8], wanted: &[u8]) {
+pub fn call(
+    rt: &impl Print,
+    lent: Lent,
+    asked: Asked,
+    recipe: &[u8],
+    bytes: &[u8],
+    wanted: &[u8],
+) -> io::Result<()> {
     let mut work = [0u8; 32768];
     let mut rows = [0i32; 262144];
     let mut sums = [0u32; 16384];
@@ -74,7 +83,8 @@ pub fn call(lent: Lent, asked: Asked, recipe: &[u8], bytes: &[u8], wanted: &[u8]
     let c = lent.sums;
     let d = lent.out;
     if a <= 32768 && b <= 262144 && c <= 16384 && d <= 65536 {
-        call_on(
+        return call_on(
+            rt,
             asked,
             recipe,
             bytes,
@@ -85,4 +95,5 @@ pub fn call(lent: Lent, asked: Asked, recipe: &[u8], bytes: &[u8], wanted: &[u8]
             &mut out[..d],
         );
     }
+    Ok(())
 }

@@ -6,6 +6,8 @@
 // `FOLDER needs` asks what a folder's still and recipe need. Where a folder has no `out`, an accepted call on its file is shown with the length of what it wrote.
 // `FOLDER verdict DISTANCE WORK` judges a folder's `received` by its `raw` and its `recipe`, with so many work bytes lent.
 // `FOLDER limited LENT` is `FOLDER file LENT` with the panel's limits in place of the archive's.
+#![tactic(auto)]
+
 mod calls;
 
 ghost use Rattle.std.specs.Prelude.{◌≡◌, cond, eqb};
@@ -15,18 +17,20 @@ use answers::Recipe;
 use calls::Asked;
 use filter_answers::Limits;
 use room::Lent;
+use std::env;
+use std::rt::Files;
 use trial::files;
 
-fn show_recipe(bytes: &[u8]) {
+fn show_recipe(rt: &impl Print, bytes: &[u8]) -> std::io::Result<()> {
     match recipe::read_recipe(bytes) {
-        Recipe::Refused(n) => printing::refusal(n),
+        Recipe::Refused(n) => printing::refusal(rt, n)?,
         Recipe::Stages { count, tolerance } => {
-            printing::text(b"ok");
-            printing::number(count as u64);
-            printing::number(tolerance);
+            printing::text(rt, b"ok")?;
+            printing::number(rt, count as u64)?;
+            printing::number(rt, tolerance)?;
         }
     }
-    printing::end();
+    printing::end(rt)
 }
 
 // The limits of a call on a file, by the first letter of its kind: the panel's for `limited`, the archive's for any other.
@@ -55,88 +59,90 @@ fn lent(text: &[u8]) -> Lent {
     }
 }
 
-fn show_bytes(kind: u8, path: &[u8]) {
+fn show_bytes(rt: &(impl Files + Print), kind: u8, path: &[u8]) -> std::io::Result<()> {
     let mut bytes = io::large_buffer();
-    let n = files::load(path, b"", 0, &mut bytes);
+    let n = files::load(rt, path, b"", 0, &mut bytes);
     if kind == b's' {
-        rereading::show(&bytes[..n]);
+        rereading::show(rt, &bytes[..n])
     } else {
-        show_recipe(&bytes[..n]);
+        show_recipe(rt, &bytes[..n])
     }
 }
 
 // A recipe with windows of one sample gives a still's samples back: the output is the still as it is written.
-fn give_back(text: &[u8], path: &[u8]) {
+fn give_back(rt: &(impl Files + Print), text: &[u8], path: &[u8]) -> std::io::Result<()> {
     let mut recipe = io::buffer();
     let mut still = io::large_buffer();
     let mut out = io::large_buffer();
-    let a = files::load(&text[words::after(text, 6)..], b"", 0, &mut recipe);
-    let b = files::load(path, b"", 0, &mut still);
+    let a = files::load(rt, &text[words::after(text, 6)..], b"", 0, &mut recipe);
+    let b = files::load(rt, path, b"", 0, &mut still);
     let c = rereading::write_again(&still[..b], &mut out);
     calls::call(
+        rt,
         lent(text),
         Asked::File(filter_answers::ARCHIVE),
         &recipe[..a],
         &still[..b],
         &out[..c],
-    );
+    )
 }
 
 // A folder's script, on a background.
-fn keep(folder: &[u8]) {
+fn keep(rt: &(impl Files + Print), folder: &[u8]) -> std::io::Result<()> {
     let mut script = io::large_buffer();
-    let n = files::load(folder, b"script", 0, &mut script);
-    printing::text(b"steps:");
-    printing::end();
-    scripts::run(folder, &script[..n]);
+    let n = files::load(rt, folder, b"script", 0, &mut script);
+    printing::text(rt, b"steps:")?;
+    printing::end(rt)?;
+    scripts::run(rt, folder, &script[..n])
 }
 
 // A folder's still, or its plane.
-fn filter(text: &[u8], folder: &[u8], asked: Asked) {
+fn filter(
+    rt: &(impl Files + Print),
+    text: &[u8],
+    folder: &[u8],
+    asked: Asked,
+) -> std::io::Result<()> {
     let mut recipe = io::buffer();
     let mut still = io::large_buffer();
     let mut out = io::large_buffer();
-    let a = files::recipe(folder, &mut recipe);
-    let b = files::still(folder, words::number(text, 8), &mut still);
-    let c = files::output(folder, words::number(text, 9), &mut out);
-    calls::call(lent(text), asked, &recipe[..a], &still[..b], &out[..c]);
+    let a = files::recipe(rt, folder, &mut recipe);
+    let b = files::still(rt, folder, words::number(text, 8), &mut still);
+    let c = files::output(rt, folder, words::number(text, 9), &mut out);
+    calls::call(rt, lent(text), asked, &recipe[..a], &still[..b], &out[..c])
 }
 
 // A path, the kind of the call by its first letter, and what the call needs.
-fn make(text: &[u8]) {
+fn make(rt: &(impl Files + Print), text: &[u8]) -> std::io::Result<()> {
     let end = words::first(text);
     let path = &text[..end];
     let kind = words::letter(text, end);
     if kind == b's' || kind == b'r' {
-        show_bytes(kind, path);
+        show_bytes(rt, kind, path)
     } else if kind == b'b' {
-        give_back(text, path);
+        give_back(rt, text, path)
     } else if kind == b'k' {
-        keep(path);
+        keep(rt, path)
     } else if kind == b'm' {
-        movement_cases::run(text, path);
+        movement_cases::run(rt, text, path)
     } else if kind == b'n' {
-        needs_cases::run(path);
+        needs_cases::run(rt, path)
     } else if kind == b'v' {
-        verdict_cases::run(text, path);
+        verdict_cases::run(rt, text, path)
     } else {
-        filter(text, path, asked(text, kind));
+        filter(rt, text, path, asked(text, kind))
     }
 }
 
-fn show_argument(i: usize) {
-    let mut text = io::buffer();
-    let n = os::arg(i, &mut text);
-    printing::text(&text[..n]);
-    printing::text(b" ");
-    make(&text[..n]);
+fn show_argument(rt: &(impl Files + Print), text: &[u8]) -> std::io::Result<()> {
+    printing::text(rt, text)?;
+    printing::text(rt, b" ")?;
+    make(rt, text)
 }
 
-fn main() {
-    let count = os::arg_count();
-    let mut i = 1;
-    while i < count {
-        show_argument(i);
-        i += 1;
+fn main(rt: HostRuntime) -> std::io::Result<()> {
+    for argument in env::args(&rt)?.skip(1) {
+        show_argument(&rt, argument.as_bytes())?;
     }
+    Ok(())
 }

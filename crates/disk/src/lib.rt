@@ -1,18 +1,22 @@
 // Files on disk, read and written.
+#![tactic(auto)]
+
 ghost use Rattle.std.specs.Prelude.{◌≡◌};
 ghost use Rattle.disk_tests.specs.Disk.{out_name};
 
 use disk_tests::Loaded;
+use std::fs::File;
+use std::io::{Read, Write};
+use std::rt::Files;
+use std::{fs, str};
 
 // A read may stop short of the file's end, and one that fails is no end: a folder can be opened too.
-fn read_all(fd: i32, bytes: &mut [u8]) -> Loaded {
+fn read_all(file: &mut impl Read, bytes: &mut [u8]) -> Loaded {
     let mut done = 0;
     while done < bytes.len() {
-        let got = libc::read(fd, &mut bytes[done..]);
-        if got < 0 {
+        let Ok(more) = file.read(&mut bytes[done..]) else {
             return Loaded::Unread;
-        }
-        let more = io::count(got, &bytes[done..]);
+        };
         if more == 0 {
             return Loaded::Bytes(done);
         }
@@ -21,34 +25,46 @@ fn read_all(fd: i32, bytes: &mut [u8]) -> Loaded {
     Loaded::Bytes(done)
 }
 
-pub fn load(path: &[u8], bytes: &mut [u8]) -> Loaded {
-    let fd = os::open_read(path);
-    if fd < 0 {
+// A file's name is text here: no other can be opened.
+pub fn load(rt: &impl Files, path: &[u8], bytes: &mut [u8]) -> Loaded {
+    let Ok(name) = str::from_utf8(path) else {
         return Loaded::Unread;
-    }
-    let loaded = read_all(fd, bytes);
-    libc::close(fd);
-    loaded
+    };
+    let Ok(mut file) = fs::open(rt, name) else {
+        return Loaded::Unread;
+    };
+    read_all(&mut file, bytes)
 }
 
-// Whether a file now holds these bytes and no others: it was opened, written whole and closed.
+// Whether the disk has what was written: it may say only here that it did not keep it. A device and a pipe have none to ask.
+fn on_disk(file: &File) -> bool {
+    let Ok(found) = file.metadata() else {
+        return false;
+    };
+    if found.is_file() {
+        return file.sync_all().is_ok();
+    }
+    true
+}
+
+// Whether a file now holds these bytes and no others: it was opened, written whole and kept.
 // What happens on a disk is beyond any contract; that nothing goes there under another name is required.
-fn put(name: &[u8], bytes: &[u8]) -> bool
+fn put(rt: &impl Files<File = File>, name: &[u8], bytes: &[u8]) -> bool
     requires { name.now ≡ out_name }
 {
-    let fd = os::open_overwrite(name);
-    if fd < 0 {
+    let Ok(path) = str::from_utf8(name) else {
+        return false;
+    };
+    let Ok(mut file) = fs::create(rt, path) else {
+        return false;
+    };
+    if file.write_all(bytes).is_err() {
         return false;
     }
-    let written = io::write_all(fd, bytes);
-    // A disk may say only here that it did not keep what was written.
-    if libc::close(fd) < 0 {
-        return false;
-    }
-    written
+    on_disk(&file)
 }
 
 // Whether the file `out` now holds these bytes and no others.
-pub fn save(bytes: &[u8]) -> bool {
-    put(b"out", bytes)
+pub fn save(rt: &impl Files<File = File>, bytes: &[u8]) -> bool {
+    put(rt, b"out", bytes)
 }

@@ -20,10 +20,10 @@ size (Bytes n) = n
 -- refusals 21 and 22 ('Who causes which refusal'): the still, then the recipe, and of each first that it was read (22), then that it is not too long (21)
 unfoldable pub disk_tests : Loaded → Loaded → List Test
 disk_tests still recipe =
-    (is_read still, Refusal.fileUnread)
-    ∷ (leb (size still) 65536, Refusal.fileLong)
-    ∷ (is_read recipe, Refusal.fileUnread)
-    ∷ (leb (size recipe) 4096, Refusal.fileLong)
+    (is_read still, Refusal.file_unread)
+    ∷ (leb (size still) 65536, Refusal.file_long)
+    ∷ (is_read recipe, Refusal.file_unread)
+    ∷ (leb (size recipe) 4096, Refusal.file_long)
     ∷ []
 
 -- the lengths of still and recipe, or a refusal

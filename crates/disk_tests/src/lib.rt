@@ -1,4 +1,6 @@
 // The program's two input files, tested in document 01's order ('Who causes which refusal').
+#![tactic(auto)]
+
 ghost use Rattle.std.specs.Prelude.{◌≡◌};
 ghost use Rattle.disk_tests.specs.Disk.{found};
 
@@ -7,14 +9,14 @@ pub const STILL_LIMIT: usize = 65536;
 pub const RECIPE_LIMIT: usize = 4096;
 
 // What came of reading a file: how many bytes were read, to its end or until the buffer was full.
-#[derive(Drop)]
+#[derive(Clone, Copy)]
 pub enum Loaded {
     Unread,
     Bytes(usize),
 }
 
 // What is found of both: a refusal, or their lengths.
-#[derive(Drop)]
+#[derive(Clone, Copy)]
 pub enum Found {
     Refused(u8),
     Lengths(usize, usize),

@@ -1,4 +1,6 @@
 // Edges: four kernels respond to a square of nine samples, and the strongest response counts.
+#![tactic(auto)]
+
 ghost use Rattle.std.specs.Prelude.{◌≡◌, [], ℕ, ◌+◌, ◌≤◌, ◌<◌, min, max, get_or, pos, nat_abs, ◌+ℤ◌, ◌*ℤ◌};
 ghost use Rattle.model.specs.Outline.{outline_kernels, response, edge_strength};
 

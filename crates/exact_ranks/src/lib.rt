@@ -1,4 +1,6 @@
 // Rank stages, exactly: a rank is a level of its window and its own numerator, over 1. The rows of ranks are those of the filter's stages, which round nothing.
+#![tactic(auto)]
+
 ghost use Rattle.std.specs.Prelude.{◌≡◌, ◌++◌, ◌+◌, ◌≤◌, ◌<◌, length, get_or, drop, pos};
 ghost use Rattle.lists.specs.Tabulate.{tabulate};
 ghost use Rattle.model.specs.Window.{area};

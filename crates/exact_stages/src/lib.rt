@@ -1,4 +1,6 @@
 // The samples of one channel held against the exact result of a recipe's one stage, whichever of the three kinds it has.
+#![tactic(auto)]
+
 ghost use Rattle.std.specs.Prelude.{◌≡◌, false, ◌*◌, ◌≤◌, length, drop};
 ghost use Rattle.refusals.specs.Refusal.{verdict};
 ghost use Rattle.refusals.specs.declared.Verdict.TheVariants.{Passed};

@@ -1,5 +1,7 @@
 // Stages of ratios, exactly: for each row the sums down at every place of a padded row, and then the sums across. Whole sums can be taken in either order, and in this
 // one a single row of them is held at a time.
+#![tactic(auto)]
+
 ghost use Rattle.std.specs.Prelude.{◌≡◌, ◌++◌, ℕ, ◌+◌, ◌*◌, ◌^◌, ◌≤◌, ◌<◌, length, get_or, drop, pos, nat_abs};
 ghost use Rattle.lists.specs.Tabulate.{tabulate};
 ghost use Rattle.model.specs.Stage.{weighted};

@@ -1,4 +1,6 @@
 // Filter a file: each channel of a still by itself.
+#![tactic(auto)]
+
 ghost use Rattle.std.specs.Prelude.{◌≡◌, ◌++◌, ◌-◌, ◌*◌, ◌≤◌, length, drop};
 ghost use Rattle.header_writer.specs.Heading.{header_bytes};
 ghost use Rattle.recipe.specs.Recipe.{recipe_stages};

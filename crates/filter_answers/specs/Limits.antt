@@ -19,11 +19,11 @@ panel = limits 4 8192
 
 -- more stages than the limit are refused with 28
 abbrev pub stage_limit_test : Limits → List Stage → Test
-stage_limit_test m ts = (leb (length ts) m.stages, Refusal.stageLimit)
+stage_limit_test m ts = (leb (length ts) m.stages, Refusal.stage_limit)
 
 -- more samples a plane than the limit are refused with 29, however many channels there are
 abbrev pub sample_limit_test : Limits → ℕ → ℕ → Test
-sample_limit_test m W H = (leb (W * H) m.samples, Refusal.sampleLimit)
+sample_limit_test m W H = (leb (W * H) m.samples, Refusal.sample_limit)
 
 -- limits a that are at most b: neither number is larger
 pub record AtMost (a b : Limits) : Type 0 where

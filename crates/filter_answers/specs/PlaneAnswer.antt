@@ -16,8 +16,8 @@ unfoldable pub plane_tests : List ℕ → ℕ → ℕ → ℕ → Lent → List 
 plane_tests recipe W H n l =
     (eqb (at recipe 0) 1, Refusal.count)
     ∷ (is_side W && is_side H, Refusal.side)
-    ∷ (leb (W * H) n, Refusal.rasterShort)
-    ∷ (leb n (W * H), Refusal.rasterLong)
+    ∷ (leb (W * H) n, Refusal.raster_short)
+    ∷ (leb n (W * H), Refusal.raster_long)
     ∷ room_tests W H (recipe_stages recipe) (W * H) l
 
 -- the answer of `filter_plane`: T, or the first refusal

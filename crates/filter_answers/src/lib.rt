@@ -1,4 +1,6 @@
 // What the two filtering calls answer, by the numbers and the bytes that they are given.
+#![tactic(auto)]
+
 ghost use Rattle.std.specs.Prelude.{◌≡◌, ◌≤◌};
 ghost use Rattle.refusals.specs.Refusal.{verdict};
 ghost use Rattle.refusals.specs.declared.Verdict.TheVariants.{Passed};
@@ -12,7 +14,7 @@ use refusals::Verdict;
 use room::Lent;
 
 // The limits of a caller: how many stages a recipe may have, and how many samples a plane of a still.
-#[derive(Drop)]
+#[derive(Clone, Copy)]
 pub struct Limits {
     pub stages: usize,
     pub samples: usize,

@@ -1,4 +1,6 @@
 // The frame rule for whole rows: the samples that it supplies on both sides, so that no loop above tests for the border.
+#![tactic(auto)]
+
 ghost use Rattle.std.specs.Prelude.{◌≡◌, ◌++◌, ◌+◌, ◌≤◌, length, drop};
 ghost use Rattle.lists.specs.Tabulate.{tabulate};
 ghost use Rattle.frame.specs.Framed.{Framed};
@@ -10,7 +12,7 @@ use stage_values::Border;
 pub const REACH: usize = 15;
 
 // A frame's size, and what is supplied outside it.
-#[derive(Drop)]
+#[derive(Clone, Copy)]
 pub struct Frame {
     pub width: usize,
     pub height: usize,

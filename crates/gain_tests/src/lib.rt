@@ -1,4 +1,6 @@
 // The gain of a kernel, tested.
+#![tactic(auto)]
+
 ghost use Rattle.std.specs.Prelude.{◌≡◌, [], ◌∷◌};
 ghost use Rattle.refusals.specs.Refusal.{verdict};
 ghost use Rattle.kernels.specs.Kernel.{kernel_of};

@@ -1,9 +1,11 @@
 // Reads the header of a still: three numbers with separators before them, and one whitespace byte.
+#![tactic(auto)]
+
 ghost use Rattle.std.specs.Prelude.{◌≡◌};
 ghost use Rattle.header_reader.specs.Header.{field, header};
 ghost use Rattle.header_reader.specs.Answers.{field_answer, header_answer};
 
-#[derive(Drop)]
+#[derive(Clone, Copy)]
 pub enum Field {
     Bad,
     Value { value: usize, len: usize },
@@ -29,7 +31,7 @@ fn read_field(part: &[u8]) -> Field
     }
 }
 
-#[derive(Drop)]
+#[derive(Clone, Copy)]
 pub enum Header {
     Bad,
     Numbers {

@@ -1,9 +1,11 @@
 // The header of a still that is written.
+#![tactic(auto)]
+
 ghost use Rattle.std.specs.Prelude.{◌≡◌, [], ◌∷◌, ◌++◌, ◌+◌, ◌≤◌, ◌<◌, length, drop};
 ghost use Rattle.header_writer.specs.Heading.{Sized, Extended, decimal, magic_line, header_bytes};
 
 // The bytes of a header so far. The longest, of 8192 by 8192, has 17.
-#[derive(Drop)]
+#[derive(Clone, Copy)]
 pub struct Head {
     pub bytes: [u8; 17],
     pub len: usize,

@@ -1,12 +1,14 @@
 // Counts of grey levels that are carried along: a column of samples is counted too, or taken off, and the level at which the sum of the counts reaches a
 // position is looked for from where it was.
+#![tactic(auto)]
+
 ghost use Rattle.std.specs.Prelude.{◌≡◌, cond, [], ℕ, ◌+◌, ◌≤◌, ◌<◌, length, get_or, replicate, ltb};
 ghost use Rattle.histograms.specs.Histogram.{at_level, below_level, counted, histogram, total};
 ghost use Rattle.histograms.specs.Column.{column_of, ColumnInside};
 ghost use Rattle.histograms.specs.Position.{Summed, Reaches};
 
 // A level, and how many samples are below it.
-#[derive(Drop)]
+#[derive(Clone, Copy)]
 pub struct Reached {
     pub level: u8,
     pub below: usize,

@@ -1,4 +1,6 @@
 // The smaller and the larger of two numbers. What else is here, division and sums of integers and signed machine numbers, is definitions and laws.
+#![tactic(auto)]
+
 ghost use Rattle.std.specs.Prelude.{◌≡◌, min, max};
 
 pub fn smaller(a: usize, b: usize) -> usize

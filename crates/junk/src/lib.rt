@@ -1,4 +1,5 @@
 // What lent memory holds before a call, no two neighbours alike and no zero in front, and whether bytes are what they should be.
+#![tactic(auto)]
 
 // The byte at a place.
 fn byte(i: usize) -> u8 {

@@ -1,4 +1,6 @@
 // For a stage that looks at samples which it has written over: the plane before it is kept behind the one that it writes, and its rows come from there.
+#![tactic(auto)]
+
 ghost use Rattle.std.specs.Prelude.{◌≡◌, ◌++◌, ◌+◌, ◌≤◌, ◌<◌, length, take, drop};
 ghost use Rattle.frame.specs.Framed.{Framed};
 ghost use Rattle.kept_planes.specs.HeldRow.{kept, Held};

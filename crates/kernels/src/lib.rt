@@ -1,4 +1,6 @@
 // Kernels along one axis: numerators over a divisor, made into the weights in 65,536ths that a stage uses.
+#![tactic(auto)]
+
 ghost use Rattle.std.specs.Prelude.{◌≡◌, map, ◌*◌, ◌^◌, ◌≤◌, ◌<◌, length, take, pos, nat_abs, ◌+ℤ◌, ◌*ℤ◌};
 ghost use Rattle.integers.specs.Divide.{floor_div};
 ghost use Rattle.model.specs.Apportion.{rounded_taps, apportion};
@@ -18,7 +20,7 @@ fn share(value: u64, divisor: u64, unit: u64) -> i32
 }
 
 // Weights in 65,536ths, and how many of their taps are rounded.
-#[derive(Drop)]
+#[derive(Clone, Copy)]
 struct Apportioned {
     weights: [i32; 31],
     rounded: usize,
@@ -47,7 +49,7 @@ fn shares(values: &[u64], offsets: &[u8], n: usize, divisor: u64) -> Apportioned
 }
 
 // A kernel as it was read: offsets 15 too large, numerators 2^38 too large.
-#[derive(Drop)]
+#[derive(Clone, Copy)]
 pub struct Kernel {
     pub offsets: [u8; 31],
     pub values: [u64; 31],

@@ -12,11 +12,12 @@ use Rattle.lists.specs.Count.{count}
 use Rattle.lists.proofs.Count.{bit_true, bit_one, count_strict, count-length}
 
 module _ {A B : Type 0} (f : A → B) where
-  pub mem_map : {xs : List A} {x : A} → Memᴰ x xs → Memᴰ (f x) (map f xs)
+  pub mem_map : {x : A} {xs : List A} → Memᴰ x xs → Memᴰ (f x) (map f xs)
   mem_map (Memᴰ.head e) = Memᴰ.head (ap f e)
   mem_map (Memᴰ.tail m) = Memᴰ.tail (mem_map m)
 
   pub of_mem_map : (xs : List A) (y : B) → Memᴰ y (map f xs) → (x : A) × Memᴰ x xs × (y ≡ f x)
+  of_mem_map [] y x' = elim x' [ ]
   of_mem_map (x ∷ xs) y (Memᴰ.head e) = (x, Memᴰ.head refl, e)
   of_mem_map (x ∷ xs) y (Memᴰ.tail m) = let s = of_mem_map xs y m in (s.0, Memᴰ.tail s.1, s.2)
 
@@ -29,6 +30,7 @@ passed false h = absurd (omega arith)
 module _ {A : Type 0} (p : A → Bool) where
   pub count_every : (xs : List A) → count p xs ≡ length xs → (z : A) → Memᴰ z xs → T (p z)
   unfolding count
+  count_every [] e z x'' = elim x'' [ ]
   count_every (x ∷ xs) e z (Memᴰ.head d) = rw d (passed (p x) (omega (arith, e, count-length p xs)))
   count_every (x ∷ xs) e z (Memᴰ.tail m) = count_every xs (omega (arith, e, bit_one (p x), count-length p xs)) z m
 

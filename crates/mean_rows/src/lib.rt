@@ -1,4 +1,6 @@
 // A row of means over windows, from the corners of a summed-area table: the time per sample does not depend on the radii.
+#![tactic(auto)]
+
 ghost use Rattle.std.specs.Prelude.{◌≡◌, ℕ, ◌+◌, ◌-◌, ◌*◌, ◌/◌, ◌^◌, ◌<◌, ◌≤◌, ◌++◌, length, drop};
 ghost use Rattle.lists.specs.Tabulate.{tabulate};
 ghost use Rattle.integers.specs.Divide.{nearest};

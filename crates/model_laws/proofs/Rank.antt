@@ -16,7 +16,6 @@ use Rattle.integers.proofs.Near.{near-clamp}
 use Rattle.lists.specs.Count.{count, at_most}
 use Rattle.lists.proofs.Count.{Bit, one, none, bit_le}
 use Rattle.lists.proofs.Pairs.{Pairs, more, pairs_flip, pairs_length}
-use Rattle.lists.proofs.Pairs
 use Rattle.model.specs.Plane.{Neighbourhood}
 use Rattle.model.specs.Window.{area, window}
 use Rattle.model.specs.Rank.{insert, sort, smallest, rank_result}
@@ -194,7 +193,7 @@ module _ (N e p : ℕ) (ys xs : List ℕ) (hN : 0 < N) (h : 1 ≤ p) (l : p ≤ 
   unfolding X Y
   smallest-apart = record { le = omega (arith, (le-div_iff_mul-le scale).0 high); ge = omega (arith, low) }
 
-count-all : {ys xs : List ℕ} (m : ℕ) → Pairs (λ y x. y ≤ m) ys xs → length ys ≤ at_most m ys
+count-all : (m : ℕ) {ys xs : List ℕ} → Pairs (λ y x. y ≤ m) ys xs → length ys ≤ at_most m ys
 unfolding count
 count-all m Pairs.none = le_refl 0
 count-all m (more {y} {ys = ys} r p) = go (bit_le y m) (count-all m p)

@@ -69,6 +69,7 @@ of_backward (t ∷ ts) s m =
 
 to_backward : (ts : List Tap) (s : Tap) → Memᴰ s ts → Memᴰ (turned s) (backward ts)
 unfolding backward
+to_backward [] s x' = elim x' [ ]
 to_backward (t ∷ ts) s (Memᴰ.head e) = Memᴰ.append_right (backward ts) (Memᴰ.head (ap turned e))
 to_backward (t ∷ ts) s (Memᴰ.tail m) = Memᴰ.append_left (turned t ∷ []) (to_backward ts s m)
 

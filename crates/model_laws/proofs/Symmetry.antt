@@ -185,7 +185,7 @@ is-split K t s =
     (and_both (lt_z t.offset (pos 0)) (same (units_left K t) (pos 1)) s.low.lt s.last)
 
 -- two of rising taps at one offset are one
-one_at : {ts : List Tap} {s t : Tap} → Rising ts → Memᴰ s ts → Memᴰ t ts → s.offset ≡ t.offset → s ≡ t
+one_at : {s t : Tap} {ts : List Tap} → Rising ts → Memᴰ s ts → Memᴰ t ts → s.offset ≡ t.offset → s ≡ t
 one_at r (Memᴰ.head e) (Memᴰ.head d) o = e ∙ sym d
 one_at {s = s} {t} r (Memᴰ.head e) (Memᴰ.tail n) o = absurd (<ℤ_irrefl (subst (λ z. z <ℤ t.offset) (ap (λ (x : Tap). x.offset) (sym e) ∙ o) (r.0 t n)))
 one_at {s = s} {t} r (Memᴰ.tail m) (Memᴰ.head d) o = absurd (<ℤ_irrefl (subst (λ z. z <ℤ s.offset) (ap (λ (x : Tap). x.offset) (sym d) ∙ sym o) (r.0 s m)))

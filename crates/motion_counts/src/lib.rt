@@ -1,10 +1,12 @@
 // How many samples of two rasters have surely moved, are surely still, and are open.
+#![tactic(auto)]
+
 ghost use Rattle.std.specs.Prelude.{◌≡◌, cond, ◌+◌, ◌*◌, ◌≤◌, ◌<◌, length};
 ghost use Rattle.model.specs.Within.{distance};
 ghost use Rattle.movement.specs.Motions.{motions, Counted};
 
 // So many samples of each kind.
-#[derive(Drop)]
+#[derive(Clone, Copy)]
 pub struct Counts {
     pub moved: usize,
     pub still: usize,

@@ -19,9 +19,9 @@ same_size (Picture W H c T n) (Picture W' H' c' T' n') = eqb W W' && eqb H H' &&
 -- the limit (27); the first recipe's refusals and the first still's; the second recipe's and the second still's; the sizes (26); what is lent to the first run, and to the second (20)
 unfoldable pub in_order : ℕ → File → File → List Test → List Test → List Test
 in_order L first second lent1 lent2 =
-    (leb L 255, Refusal.movementLimit)
+    (leb L 255, Refusal.movement_limit)
     ∷ refusal_tests first
     ++ refusal_tests second
-    ++ (same_size first second, Refusal.sizesDiffer)
+    ++ (same_size first second, Refusal.sizes_differ)
     ∷ lent1
     ++ lent2

@@ -1,1 +1,2 @@
 // The movement between two stills as definitions, with worked examples: no code.
+#![tactic(auto)]

@@ -1,4 +1,6 @@
 // What is tested of two stills, their recipes and what is lent for both, before the first sample is filtered.
+#![tactic(auto)]
+
 ghost use Rattle.std.specs.Prelude.{◌≡◌, ◌∷◌, ◌++◌};
 ghost use Rattle.refusals.specs.Refusal.{verdict, sizes_differ};
 ghost use Rattle.recipe.specs.Recipe.{recipe_stages};
@@ -13,7 +15,7 @@ use refusals::Verdict;
 use room::Lent;
 
 // Two pictures of one size: how many samples each has, how long the file of each is, and the tolerance of each.
-#[derive(Drop)]
+#[derive(Clone, Copy)]
 pub struct Pair {
     pub samples: usize,
     pub len: usize,
@@ -22,7 +24,7 @@ pub struct Pair {
 }
 
 // What two runs come to: a refusal, or what there is to be filtered and counted.
-#[derive(Drop)]
+#[derive(Clone, Copy)]
 pub enum Plan {
     Refused(u8),
     Runs(Pair),

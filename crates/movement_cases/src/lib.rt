@@ -1,8 +1,11 @@
 // The movement between the two stills of a folder.
+#![tactic(auto)]
+
+use std::rt::Files;
 use trial::files;
 
 // How long the lent buffers are: work bytes, row values, sums, and both outputs.
-#[derive(Drop)]
+#[derive(Clone, Copy)]
 struct Lengths {
     works: usize,
     rows: usize,
@@ -12,7 +15,15 @@ struct Lengths {
 }
 
 // One call on buffers that hold something already, and what it left in the outputs. More than there is here is not lent: the line then lacks an answer.
-fn call(lent: Lengths, limit: u64, recipe1: &[u8], still1: &[u8], recipe2: &[u8], still2: &[u8]) {
+fn call(
+    rt: &impl Print,
+    lent: Lengths,
+    limit: u64,
+    recipe1: &[u8],
+    still1: &[u8],
+    recipe2: &[u8],
+    still2: &[u8],
+) -> std::io::Result<()> {
     let mut work = [170u8; 32768];
     let mut rows = [1717986918i32; 16384];
     let mut sums = [2863311530u32; 65536];
@@ -36,8 +47,9 @@ fn call(lent: Lengths, limit: u64, recipe1: &[u8], still1: &[u8], recipe2: &[u8]
             &mut out1[..d],
             &mut out2[..e],
         );
-        movement_lines::show(answer, &out1, &out2);
+        return movement_lines::show(rt, answer, &out1, &out2);
     }
+    Ok(())
 }
 
 fn lent(text: &[u8]) -> Lengths {
@@ -51,21 +63,22 @@ fn lent(text: &[u8]) -> Lengths {
 }
 
 // The call on a folder's files. The words of its argument: folder, `movement`, limit, then how many work bytes, row values, sums and bytes of each output are lent.
-pub fn run(text: &[u8], folder: &[u8]) {
+pub fn run(rt: &(impl Files + Print), text: &[u8], folder: &[u8]) -> std::io::Result<()> {
     let mut recipe1 = io::buffer();
     let mut still1 = io::large_buffer();
     let mut recipe2 = io::buffer();
     let mut still2 = io::large_buffer();
-    let a = files::load(folder, b"recipe1", 0, &mut recipe1);
-    let b = files::load(folder, b"still1", 0, &mut still1);
-    let c = files::load(folder, b"recipe2", 0, &mut recipe2);
-    let d = files::load(folder, b"still2", 0, &mut still2);
+    let a = files::load(rt, folder, b"recipe1", 0, &mut recipe1);
+    let b = files::load(rt, folder, b"still1", 0, &mut still1);
+    let c = files::load(rt, folder, b"recipe2", 0, &mut recipe2);
+    let d = files::load(rt, folder, b"still2", 0, &mut still2);
     call(
+        rt,
         lent(text),
         words::number(text, 2) as u64,
         &recipe1[..a],
         &still1[..b],
         &recipe2[..c],
         &still2[..d],
-    );
+    )
 }

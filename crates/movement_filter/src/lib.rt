@@ -1,4 +1,6 @@
 // The movement between two stills: both are filtered, and the samples that were written are compared.
+#![tactic(auto)]
+
 ghost use Rattle.std.specs.Prelude.{◌≡◌};
 ghost use Rattle.room.specs.Room.{lent};
 ghost use Rattle.movement_runs.specs.RunsBoth.{run_on};

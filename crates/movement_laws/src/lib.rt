@@ -1,1 +1,2 @@
 // What is proved of the movement between two samples: no code.
+#![tactic(auto)]

@@ -1,25 +1,33 @@
 // What the call on two stills answered, and what it left in its outputs, in a line.
-use answers::Movement;
+#![tactic(auto)]
 
-fn show_counts(moved: usize, still: usize, open: usize) {
-    printing::text(b"moved");
-    printing::number(moved as u64);
-    printing::text(b" still");
-    printing::number(still as u64);
-    printing::text(b" open");
-    printing::number(open as u64);
+use answers::Movement;
+use std::io;
+
+fn show_counts(rt: &impl Print, moved: usize, still: usize, open: usize) -> io::Result<()> {
+    printing::text(rt, b"moved")?;
+    printing::number(rt, moved as u64)?;
+    printing::text(rt, b" still")?;
+    printing::number(rt, still as u64)?;
+    printing::text(rt, b" open")?;
+    printing::number(rt, open as u64)
 }
 
-fn show_tolerances(tolerance1: u64, tolerance2: u64) {
-    printing::text(b" T");
-    printing::number(tolerance1);
-    printing::number(tolerance2);
+fn show_tolerances(rt: &impl Print, tolerance1: u64, tolerance2: u64) -> io::Result<()> {
+    printing::text(rt, b" T")?;
+    printing::number(rt, tolerance1)?;
+    printing::number(rt, tolerance2)
 }
 
 // The answer, and the checksum of each output with all that lies behind what was written.
-pub fn show(answer: Movement, out1: &[u8; 65536], out2: &[u8; 65536]) {
+pub fn show(
+    rt: &impl Print,
+    answer: Movement,
+    out1: &[u8; 65536],
+    out2: &[u8; 65536],
+) -> io::Result<()> {
     match answer {
-        Movement::Refused(n) => printing::refusal(n),
+        Movement::Refused(n) => printing::refusal(rt, n)?,
         Movement::Counts {
             moved,
             still,
@@ -28,12 +36,12 @@ pub fn show(answer: Movement, out1: &[u8; 65536], out2: &[u8; 65536]) {
             tolerance2,
             ..
         } => {
-            show_counts(moved, still, open);
-            show_tolerances(tolerance1, tolerance2);
+            show_counts(rt, moved, still, open)?;
+            show_tolerances(rt, tolerance1, tolerance2)?;
         }
     }
-    printing::text(b" outputs");
-    printing::number(junk::checksum(out1) as u64);
-    printing::number(junk::checksum(out2) as u64);
-    printing::end();
+    printing::text(rt, b" outputs")?;
+    printing::number(rt, junk::checksum(out1) as u64)?;
+    printing::number(rt, junk::checksum(out2) as u64)?;
+    printing::end(rt)
 }

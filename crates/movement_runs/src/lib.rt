@@ -1,4 +1,6 @@
 // Two stills filtered one after the other, and the samples that were written counted.
+#![tactic(auto)]
+
 ghost use Rattle.std.specs.Prelude.{◌≡◌, length};
 ghost use Rattle.movement_runs.specs.RunsBoth.{run_on, Countable, counts_in, RunsBoth};
 

@@ -1,4 +1,6 @@
 // Received samples held against exact fractions: whole numerators over one denominator, nothing rounded.
+#![tactic(auto)]
+
 ghost use Rattle.std.specs.Prelude.{◌≡◌, ℕ, ◌+◌, ◌*◌, ◌^◌, ◌≤◌, ◌<◌, length, get_or, pos};
 ghost use Rattle.integers.specs.Divide.{clamp};
 ghost use Rattle.near_rows.specs.Near.{near_clamped};
@@ -6,7 +8,7 @@ ghost use Rattle.near_rows.specs.Everywhere.{everywhere};
 ghost use Rattle.near_rows.specs.Places.{sample_at, Inside};
 
 // One channel of a raster with `channels` samples a place.
-#[derive(Drop)]
+#[derive(Clone, Copy)]
 pub struct Channel {
     pub channels: usize,
     pub index: usize,

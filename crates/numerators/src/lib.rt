@@ -1,4 +1,6 @@
 // Numerators along an axis, held 2^38 too large: their sum of magnitudes, the gain, and what is divided for a share.
+#![tactic(auto)]
+
 ghost use Rattle.std.specs.Prelude.{◌≡◌, ℕ, ◌+◌, ◌*◌, ◌^◌, ◌≤◌, ◌<◌, length, get_or, pos, nat_abs, ◌+ℤ◌, ◌*ℤ◌};
 ghost use Rattle.integers.specs.Divide.{ceil_div};
 ghost use Rattle.integers.specs.Sum.{sum};

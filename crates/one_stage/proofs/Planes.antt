@@ -39,14 +39,14 @@ module _ (w h : ℕ) (s : Stage) where
 
   module _ (samples : List ℕ) (t : Model.Stage) (k : Stands s t) where
     abbrev made : List ℕ
-    made = raster (Model.stagePlane w h t (plane_of w samples)) w h
+    made = raster (Model.stage_plane w h t (plane_of w samples)) w h
 
     module _ (e : s.work ≡ Weighted) where
       pub weighted_does : Does Weighted s t.work
       weighted_does = rw e at k.work
 
     pub weighted_plane : (K L : Kernel) → t.work ≡ Model.weighted K L → worked frame_of (weighted_result K L) samples ≡ made
-    unfolding Model.stagePlane Model.result worked
+    unfolding Model.stage_plane Model.result worked
     weighted_plane K L e = rw (e, k.border, k.value)
 
     module _ {x : Window} (e : s.work ≡ Boxed x) where
@@ -54,7 +54,7 @@ module _ (w h : ℕ) (s : Stage) where
       box_does = rw e at k.work
 
       pub box_plane : worked frame_of (box_result x.r x.s) samples ≡ made
-      unfolding Model.stagePlane Model.result worked
+      unfolding Model.stage_plane Model.result worked
       box_plane = rw (box_does.0, k.border, k.value)
 
       -- its rows of sums fit
@@ -67,9 +67,9 @@ module _ (w h : ℕ) (s : Stage) where
       rank_does = rw e at k.work
 
       pub rank_plane : worked frame_of (rank_result x.r x.s p) samples ≡ made
-      unfolding Model.stagePlane Model.result worked
+      unfolding Model.stage_plane Model.result worked
       rank_plane = rw (rank_does.0, k.border, k.value)
 
     pub outline_plane : s.work ≡ Outlined → worked frame_of outline_result samples ≡ made
-    unfolding Model.stagePlane Model.result worked
+    unfolding Model.stage_plane Model.result worked
     outline_plane e = let d : Does Outlined s t.work = rw e at k.work in rw (d, k.border, k.value)

@@ -1,4 +1,6 @@
 // Which sides and channels a picture may have.
+#![tactic(auto)]
+
 ghost use Rattle.std.specs.Prelude.{◌≡◌};
 ghost use Rattle.picture_sizes.specs.PictureSize.{is_side, is_channels};
 

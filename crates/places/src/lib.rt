@@ -1,4 +1,6 @@
 // The frame rule on one axis: the index inside that is supplied at a place, by border. Places are held 15 too large, so they are at least 0.
+#![tactic(auto)]
+
 ghost use Rattle.std.specs.Prelude.{◌≡◌, ◌*◌, ◌%◌, ◌≤◌, ◌<◌};
 ghost use Rattle.model.specs.Border.{constant, nearest, mirror, wrap, folded, supply};
 ghost use Rattle.stage_values.specs.Place.{offset_of};

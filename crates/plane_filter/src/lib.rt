@@ -1,4 +1,6 @@
 // Filter a plane, with a single stage.
+#![tactic(auto)]
+
 ghost use Rattle.std.specs.Prelude.{◌≡◌, ◌++◌, ◌*◌, ◌≤◌, length, drop};
 ghost use Rattle.model.specs.Stage.{written};
 ghost use Rattle.recipe.specs.Recipe.{recipe_stages};

@@ -1,32 +1,34 @@
 // Words and numbers on standard output.
-use libc::STDOUT_FILENO;
+#![tactic(auto)]
+
+use std::io;
 
 // Bytes as they are.
-pub fn text(bytes: &[u8]) {
-    io::write_all(STDOUT_FILENO, bytes);
+pub fn text(rt: &impl Print, bytes: &[u8]) -> io::Result<()> {
+    rt.write_all(bytes)
 }
 
 // A line's end.
-pub fn end() {
-    text(b"\n");
+pub fn end(rt: &impl Print) -> io::Result<()> {
+    text(rt, b"\n")
 }
 
 // A blank and a number.
-pub fn number(n: u64) {
-    text(b" ");
-    io::print_decimal(STDOUT_FILENO, n);
+pub fn number(rt: &impl Print, n: u64) -> io::Result<()> {
+    text(rt, b" ")?;
+    rt.print(n)
 }
 
 // A refusal by its number.
-pub fn refusal(n: u8) {
-    text(b"no");
-    number(n as u64);
+pub fn refusal(rt: &impl Print, n: u8) -> io::Result<()> {
+    text(rt, b"no")?;
+    number(rt, n as u64)
 }
 
 // A picture by its size.
-pub fn picture(width: usize, height: usize, channels: usize) {
-    text(b"ok");
-    number(width as u64);
-    number(height as u64);
-    number(channels as u64);
+pub fn picture(rt: &impl Print, width: usize, height: usize, channels: usize) -> io::Result<()> {
+    text(rt, b"ok")?;
+    number(rt, width as u64)?;
+    number(rt, height as u64)?;
+    number(rt, channels as u64)
 }

@@ -1,4 +1,6 @@
 // The file call with the buffers that the program lends.
+#![tactic(auto)]
+
 ghost use Rattle.program_filter.specs.Program.{FiltersStill};
 
 use answers::File;

@@ -1,5 +1,7 @@
 // The p-th smallest samples of small windows, for all columns of a row side by side: the levels that a result can be among are halved until one is left. So every
 // inner loop runs over consecutive bytes.
+#![tactic(auto)]
+
 ghost use Rattle.std.specs.Prelude.{◌≡◌, cond, ◌++◌, ℕ, ◌+◌, ◌*◌, ◌≤◌, ◌<◌, leb, ltb, length, get_or, drop};
 ghost use Rattle.lists.specs.Count.{at_most};
 ghost use Rattle.lists.specs.Tabulate.{tabulate};

@@ -1,5 +1,7 @@
 // Rank stages: the p-th smallest sample of each window. Windows of up to 7 by 7 are searched by halving, all columns of a row side by side; for others the
 // counts of the grey levels are carried along.
+#![tactic(auto)]
+
 ghost use Rattle.std.specs.Prelude.{◌≡◌, ◌*◌, ◌≤◌, length, take};
 ghost use Rattle.model.specs.Window.{area};
 ghost use Rattle.model.specs.Rank.{rank_result};

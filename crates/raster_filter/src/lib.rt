@@ -1,4 +1,6 @@
 // Filters a raster: each channel by itself.
+#![tactic(auto)]
+
 ghost use Rattle.std.specs.Prelude.{◌≡◌, ◌++◌, ◌*◌, ◌≤◌, length, drop};
 ghost use Rattle.recipe.specs.Recipe.{recipe_stages};
 ghost use Rattle.room.specs.Room.{Sufficient};

@@ -1,4 +1,6 @@
 // The mean of rasters that lie one behind the other. It is made block by block, so that the sums stay near: samples are the inner loop and rasters the outer one.
+#![tactic(auto)]
+
 ghost use Rattle.std.specs.Prelude.{◌≡◌, ◌++◌, ℕ, ◌+◌, ◌-◌, ◌*◌, ◌/◌, ◌^◌, ◌≤◌, ◌<◌, length, get_or, drop};
 ghost use Rattle.lists.specs.Tabulate.{tabulate};
 ghost use Rattle.integers.specs.Divide.{nearest};

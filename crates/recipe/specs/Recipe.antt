@@ -20,7 +20,7 @@ stages_of (suc k) b = stage_of b ∷ stages_of k (drop (stage_length b) b)
 
 -- the tests of a recipe ('Recipe bytes'): a first byte S of 1 to 8, and S stages that take up all the rest
 unfoldable pub recipe_tests : List ℕ → List Test
-recipe_tests b = field b 1 (leb 1 (at b 0) && leb (at b 0) 8) Refusal.stageCount ++ stages_tests (at b 0) (drop 1 b)
+recipe_tests b = field b 1 (leb 1 (at b 0) && leb (at b 0) 8) Refusal.stage_count ++ stages_tests (at b 0) (drop 1 b)
 
 -- the stages of a recipe
 unfoldable pub recipe_stages : List ℕ → List Stage

@@ -1,4 +1,6 @@
 // Reads a recipe: how many stages it has, and its tolerance.
+#![tactic(auto)]
+
 ghost use Rattle.std.specs.Prelude.{◌≡◌, ◌≤◌};
 ghost use Rattle.model.specs.Stage as Model;
 ghost use Rattle.model.specs.Tolerance.{after_stage};

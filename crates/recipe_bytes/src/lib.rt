@@ -1,4 +1,6 @@
 // The numbers in a recipe's bytes, the highest byte first.
+#![tactic(auto)]
+
 ghost use Rattle.std.specs.Prelude.{◌≡◌, ◌+◌, ◌*◌, ◌%◌, ◌^◌, ◌≤◌, ◌<◌, length, pos, nat_abs, ◌+ℤ◌};
 ghost use Rattle.recipe_bytes.specs.Bytes.{word, signed8, signed16, bits};
 

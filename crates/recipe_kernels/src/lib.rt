@@ -1,4 +1,6 @@
 // Kinds 1 and 2, after the header bytes: a stage's two kernels, their gains, and all its tests.
+#![tactic(auto)]
+
 ghost use Rattle.std.specs.Prelude.{◌≡◌, not, ◌+◌, ◌≤◌, length, T};
 ghost use Rattle.refusals.specs.Refusal.{verdict};
 ghost use Rattle.refusals.specs.declared.Verdict.TheVariants.{Passed};

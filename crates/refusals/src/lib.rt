@@ -1,4 +1,6 @@
 // The refusal numbers of document 01 ('Who causes which refusal') and of document 02 by name.
+#![tactic(auto)]
+
 ghost use Rattle.std.specs.Prelude.{◌≡◌};
 ghost use Rattle.refusals.specs.Refusal.{and_then};
 
@@ -69,7 +71,7 @@ pub const RECEIVED_SIZE: u8 = 31;
 pub const DISTANCE_LIMIT: u8 = 32;
 
 // What a run of tests finds: the refusal of the first that fails, or that all pass.
-#[derive(Drop)]
+#[derive(Clone, Copy)]
 pub enum Verdict {
     Refused(u8),
     Passed,

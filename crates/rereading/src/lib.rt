@@ -1,22 +1,24 @@
 // A still that is read, written and read again.
+#![tactic(auto)]
+
 ghost use Rattle.io.specs.Counts.{IsPrefixLen};
 
 use answers::{Still, Written};
 
-fn show_read(bytes: &[u8]) {
+fn show_read(rt: &impl Print, bytes: &[u8]) -> std::io::Result<()> {
     match still_reader::read_still(bytes) {
-        Still::Refused(n) => printing::refusal(n),
+        Still::Refused(n) => printing::refusal(rt, n)?,
         Still::Picture {
             width,
             height,
             channels,
             start,
         } => {
-            printing::picture(width, height, channels);
-            printing::number(start as u64);
+            printing::picture(rt, width, height, channels)?;
+            printing::number(rt, start as u64)?;
         }
     }
-    printing::end();
+    printing::end(rt)
 }
 
 // How many bytes a still has once it is written: 0 where it was refused.
@@ -42,20 +44,21 @@ pub fn write_again(still: &[u8], out: &mut [u8]) -> usize
 }
 
 // How many bytes were written, and their checksum, and what is read of them.
-fn show_written(written: &[u8]) {
-    printing::text(b"  written");
-    printing::number(written.len() as u64);
-    printing::number(junk::checksum(written) as u64);
-    printing::text(b"\n  again ");
-    show_read(written);
+fn show_written(rt: &impl Print, written: &[u8]) -> std::io::Result<()> {
+    printing::text(rt, b"  written")?;
+    printing::number(rt, written.len() as u64)?;
+    printing::number(rt, junk::checksum(written) as u64)?;
+    printing::text(rt, b"\n  again ")?;
+    show_read(rt, written)
 }
 
 // What is read of a still and, where it is accepted, of the still that is written of it.
-pub fn show(still: &[u8]) {
-    show_read(still);
+pub fn show(rt: &impl Print, still: &[u8]) -> std::io::Result<()> {
+    show_read(rt, still)?;
     let mut out = io::large_buffer();
     let n = write_again(still, &mut out);
     if n > 0 {
-        show_written(&out[..n]);
+        return show_written(rt, &out[..n]);
     }
+    Ok(())
 }

@@ -1,4 +1,6 @@
 // What must be lent for a recipe's stages, and whether what is lent suffices.
+#![tactic(auto)]
+
 ghost use Rattle.std.specs.Prelude.{◌≡◌, ◌≤◌};
 ghost use Rattle.refusals.specs.Refusal.{verdict};
 ghost use Rattle.refusals.specs.declared.Verdict.TheVariants.{Passed};
@@ -9,7 +11,7 @@ ghost use Rattle.room.specs.Room.{needs, room_tests};
 use refusals::Verdict;
 
 // How long the lent buffers are: work bytes, row values, sums, output.
-#[derive(Drop)]
+#[derive(Clone, Copy)]
 pub struct Lent {
     pub works: usize,
     pub rows: usize,

@@ -1,4 +1,6 @@
 // Sums along a row, on 32 bits: begun at a value, a tap's products added, and ended in 64ths.
+#![tactic(auto)]
+
 ghost use Rattle.std.specs.Prelude.{◌≡◌, ◌++◌, ℕ, ◌≤◌, ◌<◌, length, get_or, drop, pos, nat_abs, ◌+ℤ◌, ◌*ℤ◌};
 ghost use Rattle.integers.specs.Divide.{floor_div};
 ghost use Rattle.lists.specs.Tabulate.{tabulate};

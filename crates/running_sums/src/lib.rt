@@ -1,12 +1,14 @@
 // A row of running sums, from the row above it and a row of samples. Lanes entries are made at a time: what four samples add up to carries four running sums along,
 // side by side.
+#![tactic(auto)]
+
 ghost use Rattle.std.specs.Prelude.{◌≡◌, ℕ, ◌+◌, ◌*◌, ◌%◌, ◌^◌, ◌<◌, ◌≤◌, ◌⊎◌, ◌++◌, length, take, drop, slice_index};
 ghost use Rattle.integers.specs.Sum.{sum};
 ghost use Rattle.lists.specs.Tabulate.{tabulate};
 ghost use Rattle.running_sums.specs.Fours.{four_sum, lane};
 
 // Lanes running sums side by side.
-#[derive(Drop)]
+#[derive(Clone, Copy)]
 pub struct Lanes {
     pub a: u32,
     pub b: u32,

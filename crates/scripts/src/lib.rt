@@ -1,8 +1,11 @@
 // Runs a script on a background, and prints the answer to each step. Steps are `add NUMBER T FILE`, `take NUMBER` and `mean LENGTH`. `lend BYTES NUMBERS` is no step: it
 // says how much of 4,096 bytes and 4,096 numbers is lent from there on.
+#![tactic(auto)]
+
 ghost use Rattle.std.specs.Prelude.{◌≤◌, length};
 
 use answers::{Changed, Held};
+use std::rt::Files;
 use trial::files;
 
 const LINE_FEED: u8 = 10;
@@ -35,9 +38,16 @@ fn number(line: &[u8], k: usize) -> u32 {
 }
 
 // The still of a file added.
-fn add(folder: &[u8], line: &[u8], held: Held, rasters: &mut [u8], labels: &mut [u32]) -> Changed {
+fn add(
+    rt: &impl Files,
+    folder: &[u8],
+    line: &[u8],
+    held: Held,
+    rasters: &mut [u8],
+    labels: &mut [u32],
+) -> Changed {
     let mut still = io::buffer();
-    let n = files::load(folder, &line[words::after(line, 3)..], 0, &mut still);
+    let n = files::load(rt, folder, &line[words::after(line, 3)..], 0, &mut still);
     background_additions::add_still(
         held,
         &still[..n],
@@ -50,6 +60,7 @@ fn add(folder: &[u8], line: &[u8], held: Held, rasters: &mut [u8], labels: &mut 
 
 // A still added, or one taken out.
 fn change(
+    rt: &impl Files,
     folder: &[u8],
     line: &[u8],
     held: Held,
@@ -57,47 +68,67 @@ fn change(
     labels: &mut [u32],
 ) -> Changed {
     if letter(line) == b'a' {
-        return add(folder, line, held, rasters, labels);
+        return add(rt, folder, line, held, rasters, labels);
     }
     background_removals::remove_still(held, number(line, 1), rasters, labels)
 }
 
 // A mean with this output.
-fn mean_on(held: Held, rasters: &[u8], labels: &[u32], out: &mut [u8]) {
+fn mean_on(
+    rt: &impl Print,
+    held: Held,
+    rasters: &[u8],
+    labels: &[u32],
+    out: &mut [u8],
+) -> std::io::Result<()> {
     let answer = background_mean::mean_still(held, rasters, labels, out);
-    script_answers::show_mean(answer, out);
+    script_answers::show_mean(rt, answer, out)
 }
 
 // A mean with an output of as many bytes as its line says.
-fn show_mean(line: &[u8], held: Held, rasters: &[u8], labels: &[u32]) {
+fn show_mean(
+    rt: &impl Print,
+    line: &[u8],
+    held: Held,
+    rasters: &[u8],
+    labels: &[u32],
+) -> std::io::Result<()> {
     let mut out = [0u8; 4096];
-    mean_on(held, rasters, labels, &mut out[..at_most(line, 1)]);
+    mean_on(rt, held, rasters, labels, &mut out[..at_most(line, 1)])
 }
 
 // A change or a mean, and what is held after it.
-fn step(folder: &[u8], line: &[u8], held: Held, rasters: &mut [u8], labels: &mut [u32]) -> Held {
-    if letter(line) == b'm' {
-        show_mean(line, held, rasters, labels);
-        return held;
-    }
-    script_answers::show_change(change(folder, line, held, rasters, labels), held)
-}
-
-// A line of the script, and what is held after it.
-fn run_line(
+fn step(
+    rt: &(impl Files + Print),
     folder: &[u8],
     line: &[u8],
     held: Held,
     rasters: &mut [u8],
     labels: &mut [u32],
-) -> Held {
-    if letter(line) == b'l' {
-        return held;
+) -> std::io::Result<Held> {
+    if letter(line) == b'm' {
+        show_mean(rt, line, held, rasters, labels)?;
+        return Ok(held);
     }
-    printing::text(b"  ");
-    let now = step(folder, line, held, rasters, labels);
-    printing::end();
-    now
+    script_answers::show_change(rt, change(rt, folder, line, held, rasters, labels), held)
+}
+
+// A line of the script, and what is held after it.
+fn run_line(
+    rt: &(impl Files + Print),
+    folder: &[u8],
+    line: &[u8],
+    held: Held,
+    rasters: &mut [u8],
+    labels: &mut [u32],
+) -> std::io::Result<Held> {
+    if letter(line) == b'l' {
+        return Ok(held);
+    }
+    printing::text(rt, b"  ")?;
+    let now = step(rt, folder, line, held, rasters, labels)?;
+    printing::end(rt)?;
+    Ok(now)
 }
 
 // A number that stands after k blanks, at most 4,096.
@@ -118,7 +149,7 @@ fn lent(line: &[u8], k: usize, before: usize) -> usize
 }
 
 // The steps of a script, each on its own line.
-pub fn run(folder: &[u8], script: &[u8]) {
+pub fn run(rt: &(impl Files + Print), folder: &[u8], script: &[u8]) -> std::io::Result<()> {
     let mut rasters = [0u8; 4096];
     let mut labels = [0u32; 4096];
     let mut held = Held {
@@ -137,12 +168,14 @@ pub fn run(folder: &[u8], script: &[u8]) {
         bytes = lent(line, 1, bytes);
         numbers = lent(line, 2, numbers);
         held = run_line(
+            rt,
             folder,
             line,
             held,
             &mut rasters[..bytes],
             &mut labels[..numbers],
-        );
+        )?;
         at += end + 1;
     }
+    Ok(())
 }

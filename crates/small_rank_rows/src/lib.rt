@@ -1,4 +1,6 @@
 // A row of ranks of small windows: the rows that they reach are held, one behind another, and each result is searched among them.
+#![tactic(auto)]
+
 ghost use Rattle.std.specs.Prelude.{◌≡◌, ◌++◌, ℕ, ◌+◌, ◌-◌, ◌*◌, ◌≤◌, ◌<◌, length, get_or, drop};
 ghost use Rattle.lists.specs.Tabulate.{tabulate};
 ghost use Rattle.model.specs.Window.{area};

@@ -1,4 +1,6 @@
 // Rank stages of small windows, row by row.
+#![tactic(auto)]
+
 ghost use Rattle.std.specs.Prelude.{◌≡◌, ◌+◌, ◌*◌, ◌≤◌, length, take};
 ghost use Rattle.model.specs.Window.{area};
 ghost use Rattle.model.specs.Rank.{rank_result};

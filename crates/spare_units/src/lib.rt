@@ -1,4 +1,6 @@
 // Spare units: the remainders of an axis's taps, how many units they leave over, and which taps get one.
+#![tactic(auto)]
+
 ghost use Rattle.std.specs.Prelude.{◌≡◌, cond, ℕ, ◌+◌, ◌*◌, ◌/◌, ◌^◌, ◌≤◌, ◌<◌, length, get_or, take, nat_abs, ltb};
 ghost use Rattle.integers.specs.Sum.{sum};
 ghost use Rattle.lists.specs.Tabulate.{tabulate};
@@ -7,7 +9,7 @@ ghost use Rattle.numerators.specs.Numerator.{numerator_of, remainder_of};
 ghost use Rattle.unit_order.specs.Order.{before};
 
 // The remainders of an axis's taps, and how many are not 0: so many taps are rounded.
-#[derive(Drop)]
+#[derive(Clone, Copy)]
 pub struct Leftovers {
     pub rest: [u64; 31],
     pub rounded: usize,

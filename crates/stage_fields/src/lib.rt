@@ -1,4 +1,6 @@
 // The tests of the fields that stages share: the three header bytes, radii, and a position. The first takes a stage's bytes, the others what follows the header bytes.
+#![tactic(auto)]
+
 ghost use Rattle.std.specs.Prelude.{◌≡◌};
 ghost use Rattle.refusals.specs.Refusal.{verdict};
 ghost use Rattle.stage_fields.specs.StageFields.{head_tests, radius_tests, position_tests};

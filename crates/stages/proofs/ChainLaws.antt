@@ -12,7 +12,7 @@ pub chain_none : (w h : ℕ) (samples : List ℕ) → Model.written w h [] sampl
 unfolding Model.written
 chain_none w h samples = refl
 
-pub chain_more : (w h : ℕ) (t : Model.Stage) (ts : List Model.Stage) (samples plane : List ℕ) → plane ≡ raster (Model.stagePlane w h t (plane_of w samples)) w h
+pub chain_more : (w h : ℕ) (t : Model.Stage) (ts : List Model.Stage) (samples plane : List ℕ) → plane ≡ raster (Model.stage_plane w h t (plane_of w samples)) w h
     → Model.written w h (t ∷ ts) samples ≡ Model.written w h ts plane
 unfolding Model.written
 chain_more w h t ts samples plane e = rw e

@@ -9,8 +9,8 @@ use Rattle.still_reader.specs.Head.{head_of}
 -- the tests of a raster of `rest` bytes, where `size` samples are announced: too few, too many
 abbrev pub raster_tests : ℕ → ℕ → List Test
 raster_tests size rest =
-    (leb size rest, Refusal.rasterShort)
-    ∷ (leb rest size, Refusal.rasterLong)
+    (leb size rest, Refusal.raster_short)
+    ∷ (leb rest size, Refusal.raster_long)
     ∷ []
 
 -- what is announced, in a file of `total` bytes: nothing may follow the raster, not even a second picture

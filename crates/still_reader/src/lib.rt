@@ -1,4 +1,6 @@
 // Reads a still: its size, its channels, and the place of its raster; or its header alone.
+#![tactic(auto)]
+
 ghost use Rattle.std.specs.Prelude.{◌≡◌, ◌-◌, ◌≤◌};
 ghost use Rattle.header_reader.specs.Answers.{whole_header};
 ghost use Rattle.still_reader.specs.Head.{channels_of, announced, head_of};

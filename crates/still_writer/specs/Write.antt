@@ -12,8 +12,8 @@ unfoldable pub write_tests : ℕ → ℕ → ℕ → ℕ → ℕ → List Test
 write_tests w h c raster room =
     (is_channels c, Refusal.channels)
     ∷ (is_side w && is_side h, Refusal.side)
-    ∷ (leb (w * h * c) raster, Refusal.rasterShort)
-    ∷ (leb raster (w * h * c), Refusal.rasterLong)
+    ∷ (leb (w * h * c) raster, Refusal.raster_short)
+    ∷ (leb raster (w * h * c), Refusal.raster_long)
     ∷ (leb (length (header_bytes w h c) + w * h * c) room, Refusal.room)
     ∷ []
 

@@ -1,4 +1,6 @@
 // Writes a still: header and raster into a lent output.
+#![tactic(auto)]
+
 ghost use Rattle.std.specs.Prelude.{◌≡◌, ◌++◌, ◌+◌, ◌≤◌, length, drop};
 ghost use Rattle.header_writer.specs.Heading.{header_bytes};
 ghost use Rattle.still_writer.specs.Write.{written_of, Writes};

@@ -1,4 +1,6 @@
 // How many running sums a stage holds, and where their rows lie.
+#![tactic(auto)]
+
 ghost use Rattle.std.specs.Prelude.{◌≡◌, ℕ, ◌+◌, ◌*◌, ◌≤◌};
 ghost use Rattle.model.specs.Stage as Model;
 ghost use Rattle.stage_values.specs.Stands.{Stands};

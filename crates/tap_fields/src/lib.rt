@@ -1,4 +1,6 @@
 // The tests of all fields of a stage of weights: sizes, and then offsets and weights of both axes, in byte order.
+#![tactic(auto)]
+
 ghost use Rattle.std.specs.Prelude.{◌≡◌, drop};
 ghost use Rattle.refusals.specs.Refusal.{verdict};
 ghost use Rattle.refusals.specs.declared.Verdict.TheVariants.{Passed};

@@ -1,4 +1,6 @@
 // The taps of a stage of weights, from its array of offsets and its array of weights, as a kernel.
+#![tactic(auto)]
+
 ghost use Rattle.std.specs.Prelude.{◌≡◌, ℕ, ◌+◌, ◌*◌, ◌%◌, ◌^◌, ◌≤◌, ◌<◌, length, take, T, nat_abs};
 ghost use Rattle.lists.specs.Tabulate.{tabulate};
 ghost use Rattle.weights.specs.Bits.{accepted};

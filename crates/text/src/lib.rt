@@ -1,4 +1,6 @@
 // The text of a header: whitespace, comments and separators, and decimal numbers of any length.
+#![tactic(auto)]
+
 ghost use Rattle.std.specs.Prelude.{◌≡◌, true, false, ◌+◌, ◌-◌, ◌*◌, ◌≤◌, ◌<◌, min, length};
 ghost use Rattle.text.specs.Text.{is_space, gap, digits, value};
 ghost use Rattle.text.specs.Step.{step_of};
@@ -19,7 +21,7 @@ pub fn is_space(b: u8) -> bool
 }
 
 // What a byte does to a run of separators: it ends it, or goes on, inside a comment or not.
-#[derive(Drop)]
+#[derive(Clone, Copy)]
 pub enum Step {
     End,
     Next(bool),
@@ -64,7 +66,7 @@ pub fn separators(part: &[u8]) -> usize
 pub const CUT: usize = 10000;
 
 // The digits at the front: their number's value, cut, and how many there are.
-#[derive(Drop)]
+#[derive(Clone, Copy)]
 pub struct Decimal {
     pub value: usize,
     pub len: usize,

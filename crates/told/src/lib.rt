@@ -1,4 +1,6 @@
 // The calls' answers as numbers: the refusal's is given back, or 0 and the values in a lent array.
+#![tactic(auto)]
+
 ghost use Rattle.std.specs.Prelude.{◌≡◌, cond};
 ghost use Rattle.told.specs.Numbers.{Tells, still_told, written_told, recipe_told, needs_told, plane_told, file_told, held_in, changed_told, mean_told, movement_told, judged_told};
 

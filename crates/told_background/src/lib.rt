@@ -1,4 +1,6 @@
 // The calls on a background with their answers told: what is held is four numbers that are updated.
+#![tactic(auto)]
+
 ghost use Rattle.std.specs.Prelude.{length};
 ghost use Rattle.background.specs.Change.{addition, removal};
 ghost use Rattle.background.specs.Memory.{background_in};

@@ -1,4 +1,6 @@
 // The verdict on a still that was filtered elsewhere with its answer told.
+#![tactic(auto)]
+
 ghost use Rattle.told_verdict.specs.Call.{GivesVerdict};
 
 // Judge a received still: 1 where each of its samples lies within `distance` levels of the exact result on the raw one, 0 where one does not.

@@ -1,4 +1,6 @@
 // The tolerance from stage to stage, as `afterStage` of the model has it, on machine numbers.
+#![tactic(auto)]
+
 ghost use Rattle.std.specs.Prelude.{◌≡◌, ◌+◌, ◌*◌, ◌^◌, ◌≤◌, ◌<◌, min};
 ghost use Rattle.integers.specs.Divide.{ceil_div};
 ghost use Rattle.model.specs.Tolerance.{weighted_growth};
@@ -19,7 +21,7 @@ fn cut(x: u64) -> u64
 }
 
 // The tolerance so far, as a number of 65,536ths of a grey level.
-#[derive(Drop)]
+#[derive(Clone, Copy)]
 pub struct Tolerance {
     pub units: u64,
 }

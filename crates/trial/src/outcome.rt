@@ -1,44 +1,66 @@
 // What a filtering call answered, and what it left in buffers that held junk.
 use answers::File;
+use std::io;
 
 // Whether the output is what is wanted.
-fn same(holds: bool) {
+fn same(rt: &impl Print, holds: bool) -> io::Result<()> {
     if holds {
-        printing::text(b" same");
+        printing::text(rt, b" same")
     } else {
-        printing::text(b" DIFFERS");
+        printing::text(rt, b" DIFFERS")
     }
 }
 
 // Whether what was to stay has stayed.
-fn kept(holds: bool) {
+fn kept(rt: &impl Print, holds: bool) -> io::Result<()> {
     if holds {
-        printing::text(b" kept");
+        printing::text(rt, b" kept")
     } else {
-        printing::text(b" ALTERED");
+        printing::text(rt, b" ALTERED")
     }
 }
 
 // After a refusal all four buffers stay.
-fn refused(n: u8, work: &[u8], rows: &[i32], sums: &[u32], out: &[u8]) {
-    printing::refusal(n);
-    kept(junk::all_kept(work, rows, sums, out));
+fn refused(
+    rt: &impl Print,
+    n: u8,
+    work: &[u8],
+    rows: &[i32],
+    sums: &[u32],
+    out: &[u8],
+) -> io::Result<()> {
+    printing::refusal(rt, n)?;
+    kept(rt, junk::all_kept(work, rows, sums, out))
 }
 
 // Else the output is as wanted, and its tail stays. Where no output is there to compare with, its length is shown.
-fn filtered(tolerance: u64, len: usize, wanted: &[u8], out: &[u8]) {
-    printing::number(tolerance);
+fn filtered(
+    rt: &impl Print,
+    tolerance: u64,
+    len: usize,
+    wanted: &[u8],
+    out: &[u8],
+) -> io::Result<()> {
+    printing::number(rt, tolerance)?;
     if wanted.len() == 0 {
-        printing::number(len as u64);
+        printing::number(rt, len as u64)?;
     } else {
-        same(len == wanted.len() && junk::front(out, wanted));
+        same(rt, len == wanted.len() && junk::front(out, wanted))?;
     }
-    kept(junk::bytes_kept(out, len));
+    kept(rt, junk::bytes_kept(out, len))
 }
 
-pub fn show(answer: File, wanted: &[u8], work: &[u8], rows: &[i32], sums: &[u32], out: &[u8]) {
+pub fn show(
+    rt: &impl Print,
+    answer: File,
+    wanted: &[u8],
+    work: &[u8],
+    rows: &[i32],
+    sums: &[u32],
+    out: &[u8],
+) -> io::Result<()> {
     match answer {
-        File::Refused(n) => refused(n, work, rows, sums, out),
+        File::Refused(n) => refused(rt, n, work, rows, sums, out)?,
         File::Picture {
             width,
             height,
@@ -46,9 +68,9 @@ pub fn show(answer: File, wanted: &[u8], work: &[u8], rows: &[i32], sums: &[u32]
             tolerance,
             len,
         } => {
-            printing::picture(width, height, channels);
-            filtered(tolerance, len, wanted, out);
+            printing::picture(rt, width, height, channels)?;
+            filtered(rt, tolerance, len, wanted, out)?;
         }
     }
-    printing::end();
+    printing::end(rt)
 }

@@ -1,4 +1,6 @@
 // The order in which taps are served with spare units.
+#![tactic(auto)]
+
 ghost use Rattle.std.specs.Prelude.{◌≡◌, ◌<◌, length, get_or};
 ghost use Rattle.unit_order.specs.Order.{distance, nearer, before};
 

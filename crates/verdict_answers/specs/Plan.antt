@@ -16,7 +16,7 @@ fit_stage recipe = eqb (at recipe 0) 1 && (eqb (at recipe 1) 1 || (eqb (at recip
 
 -- the tests of a distance of c levels and of the recipe, in their order: 32 comes first, then the recipe's own, then 30
 unfoldable pub request_tests : ℕ → List ℕ → List Test
-request_tests c recipe = (leb c 255, Refusal.distanceLimit) ∷ recipe_tests recipe ++ (fit_stage recipe, Refusal.verdictStage) ∷ []
+request_tests c recipe = (leb c 255, Refusal.distance_limit) ∷ recipe_tests recipe ++ (fit_stage recipe, Refusal.verdict_stage) ∷ []
 
 -- whether two pictures have one width, one height and as many channels
 abbrev pub same_size : ℕ → ℕ → ℕ → ℕ → ℕ → ℕ → Bool
@@ -25,7 +25,7 @@ same_size W H channels W' H' channels' = eqb W W' && (eqb H H' && eqb channels c
 -- the tests of two pictures of W by H places: 31 where size or channels differ, and then 20 where fewer work bytes are lent than one channel has samples
 abbrev pub pair_tests : ℕ → ℕ → ℕ → ℕ → ℕ → ℕ → ℕ → List Test
 pair_tests W H channels W' H' channels' works =
-    (same_size W H channels W' H' channels', Refusal.receivedSize)
+    (same_size W H channels W' H' channels', Refusal.received_size)
     ∷ (leb (W * H) works, Refusal.room)
     ∷ []
 

@@ -1,4 +1,6 @@
 // What is tested of a verdict's distance, recipe, stills and work bytes, before the first sample is compared.
+#![tactic(auto)]
+
 ghost use Rattle.std.specs.Prelude.{◌≡◌};
 ghost use Rattle.refusals.specs.Refusal.{verdict};
 ghost use Rattle.refusals.specs.declared.Verdict.TheVariants.{Passed};
@@ -9,7 +11,7 @@ ghost use Rattle.verdict_answers.specs.Plan.{fit_stage, same_size, stills_plan, 
 use answers::{Recipe, Still};
 
 // What a verdict comes to: a refusal, or two pictures of one size with the places of their rasters.
-#[derive(Drop)]
+#[derive(Clone, Copy)]
 pub enum Plan {
     Refused(u8),
     Compare {

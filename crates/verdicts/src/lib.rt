@@ -1,5 +1,7 @@
 // A verdict on a still that was filtered elsewhere: its samples are held against the exact result of one stage on the raw still. Nothing of the filter's own,
 // rounded results is looked at.
+#![tactic(auto)]
+
 ghost use Rattle.std.specs.Prelude.{◌≡◌, ◌≤◌, length};
 ghost use Rattle.recipe.specs.Recipe.{recipe_stages};
 ghost use Rattle.verdict_answers.specs.VerdictAnswer.{all_near};

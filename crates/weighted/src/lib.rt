@@ -1,4 +1,6 @@
 // Weighted stages: row values by the taps across, then levels by the taps down.
+#![tactic(auto)]
+
 ghost use Rattle.std.specs.Prelude.{◌≡◌, ◌++◌, ◌+◌, ◌*◌, ◌≤◌, length, drop};
 ghost use Rattle.lists.specs.Tabulate.{raster};
 ghost use Rattle.model.specs.Kernel.{Kernel};

@@ -1,4 +1,6 @@
 // Levels: the taps down. Taps are the outer loop and columns the inner one.
+#![tactic(auto)]
+
 ghost use Rattle.std.specs.Prelude.{◌≡◌, ◌++◌, ℕ, ◌+◌, ◌-◌, ◌*◌, ◌^◌, ◌≤◌, ◌<◌, length, get_or, drop, pos, nat_abs, ◌+ℤ◌};
 ghost use Rattle.integers.specs.Divide.{floor_div, clamp};
 ghost use Rattle.lists.specs.Tabulate.{tabulate, raster};
@@ -50,7 +52,7 @@ fn column_sums(rows: &[i32], w: usize, first: usize, axis: Axis, sums: &mut [i64
 }
 
 // The first and the last row that the taps down reach, held 15 too large.
-#[derive(Drop)]
+#[derive(Clone, Copy)]
 pub struct Reach {
     pub first: usize,
     pub last: usize,

@@ -1,4 +1,6 @@
 // Row values: the taps across. Taps are the outer loop and columns the inner one.
+#![tactic(auto)]
+
 ghost use Rattle.std.specs.Prelude.{◌≡◌, ◌++◌, ◌+◌, ◌≤◌, length, get_or, drop, pos};
 ghost use Rattle.lists.specs.Tabulate.{tabulate};
 ghost use Rattle.tap_sums.specs.HeldSums.{axis_sum, Light, row_of};

@@ -1,18 +1,20 @@
 // A weight as a value: a whole numerator, or a real number as it arrived.
+#![tactic(auto)]
+
 ghost use Rattle.std.specs.Prelude.{◌≡◌, T};
 ghost use Rattle.std.specs.Float.{binary32};
 ghost use Rattle.std.specs.Float.Ieee.{of_bits};
 ghost use Rattle.weights.specs.Bits.{pattern, accepted};
 ghost use Rattle.weights.specs.Weight.{usable, numerator_of, in_range};
 
-#[derive(Drop)]
+#[derive(Clone, Copy)]
 pub enum Weight {
     Whole(i64),
     Real(f32),
 }
 
 // A tap of reals: its offset's byte, from a recipe's array of offsets, and its weight, from the array of weights.
-#[derive(Drop)]
+#[derive(Clone, Copy)]
 pub struct RealTap {
     pub offset: u8,
     pub weight: f32,

@@ -1,4 +1,6 @@
 // The taps of an axis of ratios with their whole numerators: nothing apportioned, nothing rounded.
+#![tactic(auto)]
+
 ghost use Rattle.std.specs.Prelude.{◌≡◌, ℕ, ◌≤◌, ◌<◌, length, get_or, take, nat_abs};
 ghost use Rattle.lists.specs.Tabulate.{tabulate};
 ghost use Rattle.numerators.specs.Numerator.{numerator_of};
@@ -8,7 +10,7 @@ ghost use Rattle.whole_taps.specs.Whole.{kernel_is, Whole};
 use kernels::Kernel;
 
 // Offsets 15 too large, numerators, and the divisor that all of them are over.
-#[derive(Drop)]
+#[derive(Clone, Copy)]
 pub struct Taps {
     pub offsets: [u8; 31],
     pub weights: [i32; 31],

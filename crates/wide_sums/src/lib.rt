@@ -1,4 +1,6 @@
 // Sums along a row, on 64 bits: begun at a value, and the products of a tap with a row of sums on 32 bits added.
+#![tactic(auto)]
+
 ghost use Rattle.std.specs.Prelude.{◌≡◌, ◌++◌, ℕ, ◌^◌, ◌≤◌, ◌<◌, length, get_or, drop, pos, nat_abs, ◌+ℤ◌, ◌*ℤ◌};
 ghost use Rattle.lists.specs.Tabulate.{tabulate};
 

@@ -1,4 +1,6 @@
 // A window's counts along a row: the frame rule places the rows once, then each column as it enters or leaves.
+#![tactic(auto)]
+
 ghost use Rattle.std.specs.Prelude.{◌≡◌, ℕ, ◌-◌, ◌≤◌, ◌<◌, length, get_or, take};
 ghost use Rattle.places.specs.Supplied.{place_of};
 ghost use Rattle.frame.specs.Framed.{Framed};

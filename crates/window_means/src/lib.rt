@@ -1,4 +1,6 @@
 // A row of means over windows, from the rows of running sums that are held.
+#![tactic(auto)]
+
 ghost use Rattle.std.specs.Prelude.{◌≡◌, ◌++◌, ℕ, ◌+◌, ◌*◌, ◌≤◌, ◌<◌, length, drop};
 ghost use Rattle.integers.specs.Divide.{nearest};
 ghost use Rattle.lists.specs.Tabulate.{tabulate};

@@ -1,4 +1,6 @@
 // The words of an argument or of a line, with blanks between them.
+#![tactic(auto)]
+
 ghost use Rattle.std.specs.Prelude.{◌≤◌, length};
 
 const BLANK: u8 = 32;

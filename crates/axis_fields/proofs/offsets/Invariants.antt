@@ -1,0 +1,14 @@
+-- `axis_fields::offsets` meets its contract: the verdict on the whole is that on what is left. Assumes nothing.
+use Prim.Native.Nat.{◌-◌, ◌≤◌}
+use native.Mathlib.Omega.{arith}
+use mathlib.Core.Path.{◌≡◌, sym, ◌∙◌}
+use Rattle.refusals.specs.Refusal.{verdict}
+use Rattle.axis_fields.specs.AxisFields.{axis_tests}
+use Rattle.axis_fields.proofs.OffsetLaws.{left, axis_start, offset_end, offset-cut, offset_good, offset-low, offset_high}
+use Rattle.axis_fields.proofs.offsets.Given as goal
+
+abbrev pub invariant-loop-i : goal.invariant-loop-i
+invariant-loop-i l = (l.i ≤ l.n) × (verdict (axis_tests l.n l.part) ≡ verdict (left l.least l.n l.i l.part l.part l.i l.least))
+
+abbrev pub decreases-loop-i : goal.decreases-loop-i
+decreases-loop-i l = l.n - l.i

@@ -1,0 +1,16 @@
+-- `background_slots::largest_tolerance` meets its contract: the largest so far. Assumes nothing.
+use Prim.Native.Nat.{ℕ, ◌+◌, ◌*◌, ◌-◌, ◌≤◌, max}
+use native.Mathlib.Omega.{arith}
+use mathlib.Core.Path.{◌≡◌, sym, ap, ◌∙◌}
+use lib.ListN.{get_or}
+use Rattle.lists.specs.Tabulate.{tabulate}
+use Rattle.model.specs.Outline.{largest}
+use Rattle.background_slots.proofs.Search.{largest-none, largest-more}
+use native.Mathlib.Nat.{le_antisymm}
+use Rattle.background_slots.proofs.largest_tolerance.Given as goal
+
+abbrev pub invariant-loop-i : goal.invariant-loop-i
+invariant-loop-i l = (l.i ≤ l.count) × (l.most ≡ largest (tabulate (λ (j : ℕ). get_or l.labels (2 * j + 1) 0) l.i))
+
+abbrev pub decreases-loop-i : goal.decreases-loop-i
+decreases-loop-i l = l.count - l.i

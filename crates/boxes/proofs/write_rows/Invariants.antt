@@ -1,0 +1,29 @@
+-- `boxes::write_rows` meets its contract: the rows of means so far in front, the rows of sums up to their windows' edge, and behind the plane as it was. Assumes nothing.
+use Prim.Native.Nat.{ℕ, ◌+◌, ◌-◌, ◌*◌, ◌≤◌, ◌<◌}
+use native.Mathlib.Nat.{le_refl, add-zero}
+use native.Mathlib.Omega.{arith}
+use mathlib.Core.Path.{◌≡◌, refl, ap, ◌∙◌}
+use mathlib.Core.List.{List, ◌++◌}
+use lib.ListN.{length, take, drop, length-drop}
+use lib.Seq.{take_at}
+use Rattle.lists.proofs.Part.{tail_mid}
+use Rattle.lists.proofs.Raster.{length-raster}
+use Rattle.lists.proofs.Stored.{StoredRows, rows_stored_none, rows_stored_more, rows_stored_done, row_room}
+use Rattle.model.specs.Window as Model
+use Rattle.model.specs.Box.{box_result}
+use Rattle.model_laws.proofs.Window.{area-le}
+use Rattle.frame.specs.Framed.{neighbours, worked}
+use Rattle.table_sizes.specs.Ring.{row_start}
+use Rattle.area_tables.specs.HeldTable.{HeldTable}
+use Rattle.kept_planes.specs.HeldRow.{kept}
+use Rattle.kept_planes.proofs.Planes.{part_behind, plane_behind, plane_small, kept_same, kept_bytes}
+use Rattle.boxes.proofs.Windows.{held_le, row_means}
+use Rattle.boxes.proofs.write_rows.Given as goal
+
+abbrev pub invariant-loop-v : goal.invariant-loop-v
+invariant-loop-v l = StoredRows (λ i j. box_result l.window.r l.window.s (neighbours l.frame (kept l.frame l.initial.work) i j)) l.frame.width l.frame.height l.initial.work l.work l.at l.v
+    × (l.lower ≡ row_start l.frame.width l.window (2 * l.window.s + l.v)) × HeldTable l.frame l.window (kept l.frame l.initial.work) (2 * l.window.s + l.v) l.sums
+    × (length l.row ≡ length l.initial.row) × (length l.fours ≡ length l.initial.fours) × (length l.sums ≡ length l.initial.sums)
+
+abbrev pub decreases-loop-v : goal.decreases-loop-v
+decreases-loop-v l = l.h - l.v

@@ -1,0 +1,18 @@
+-- `exact_ranks::small_near` meets its contract: row by row, with the rows of its windows in hand, and the first row that is not near decides. Assumes nothing.
+use Prim.Native.Nat.{ℕ, ◌+◌, ◌*◌, ◌-◌, ◌≤◌}
+use native.Mathlib.Nat.{mul-le-mul}
+use native.Mathlib.Omega.{arith}
+use mathlib.Core.Path.{◌≡◌, refl}
+use lib.ListN.{length}
+use Rattle.model_laws.proofs.Window.{area-le}
+use Rattle.near_rows.proofs.RowLaws.{RowsNear, no_rows, one-row-more, row-not-near, all-rows-near, rows_inside}
+use Rattle.small_rank_rows.specs.HeldRows.{HeldRows}
+use Rattle.exact_ranks.proofs.Ranks.{rank_at, row_ranks}
+use Rattle.exact_ranks.proofs.small_near.Given as goal
+
+abbrev pub invariant-loop-v : goal.invariant-loop-v
+invariant-loop-v l = (l.v ≤ l.h) × RowsNear l.c 1 l.w l.h l.channel l.received (rank_at l.frame l.window.r l.window.s l.p l.plane) l.v × HeldRows l.frame l.plane (14 - l.window.s + l.v) 1 (2 * l.window.s + 1) l.rows
+    × (57554 ≡ length l.rows) × (8192 ≡ length l.seen) × (8192 ≡ length l.levels) × (8192 ≡ length l.wide)
+
+abbrev pub decreases-loop-v : goal.decreases-loop-v
+decreases-loop-v l = l.h - l.v

@@ -1,0 +1,75 @@
+-- `exact_weights::ratios_near` meets its contract: row by row, and the first row that is not near decides. Assumes nothing.
+use Prim.Native.Nat.{ℕ, ◌-◌, ◌≤◌}
+use native.Mathlib.Omega.{arith}
+use mathlib.Core.Path.{◌≡◌, refl}
+use mathlib.Core.List.{List}
+use lib.ListN.{length, get_or}
+use lib.IntN.{ℤ, pos}
+use Rattle.model.specs.Stage.{weighted}
+use Rattle.model.specs.Exact.{numerator}
+use Rattle.frame.specs.declared.Frame.{Frame}
+use Rattle.frame.specs.Framed.{neighbours}
+use Rattle.near_rows.proofs.RowLaws.{RowsNear, no_rows, one-row-more, row-not-near, all-rows-near, rows_inside}
+use Rattle.whole_taps.specs.declared.Taps.{Taps}
+use Rattle.whole_taps.specs.Whole.{kernel_is}
+use borrow.Author.Rules.{rules}
+use Rattle.exact_weights.proofs.ratios_near.Goals as goal
+
+-- the numerator at column u, row v
+abbrev at : Frame → Taps → Taps → List ℕ → ℕ → ℕ → ℤ
+at frame across down plane u v = numerator (weighted (kernel_is across) (kernel_is down)) (neighbours frame plane u v)
+
+pub denominator-n-requires : goal.denominator-n-requires
+denominator-n-requires c =
+    let p = c.requires in (p.1, p.2)
+
+pub loop-v-init : goal.loop-v-init
+loop-v-init c =
+    let a = c.args in (omega arith, no_rows a.c c.denominator-n.result a.frame.width a.frame.height a.channel a.received.now (at a.frame a.across a.down a.plane.now), refl, refl, refl)
+
+pub slice_bounds-row_numerators-end : goal.slice_bounds-row_numerators-end
+slice_bounds-row_numerators-end c =
+    c.loop-v.invariant.2
+
+pub slice_bounds-row_numerators-end-in-loop-v : goal.slice_bounds-row_numerators-end-in-loop-v
+slice_bounds-row_numerators-end-in-loop-v c =
+    c.loop-v.invariant.3
+
+pub slice_bounds-row_numerators-end-in-loop-v-2 : goal.slice_bounds-row_numerators-end-in-loop-v-2
+slice_bounds-row_numerators-end-in-loop-v-2 c =
+    c.loop-v.invariant.4
+
+pub row_numerators-requires : goal.row_numerators-requires
+row_numerators-requires c =
+    let p = c.requires in
+    let L = c.loop-v in
+    (p.0, p.1, p.2, omega (arith, c.loop-v-test.true, p.0.height.1), omega (arith, L.invariant.2, p.0.width.1), omega (arith, L.invariant.3, p.0.width.1), omega (arith, L.invariant.4, p.0.width.1))
+
+pub row_near-requires : goal.row_near-requires
+row_near-requires c =
+    let p = c.requires in
+    let t = c.loop-v-test.true in
+    (p.0.width.0, p.0.width.1, omega (arith, t, p.0.height.1), omega (arith, p.0.width.1, c.loop-v.invariant.4, c.wide-in-loop-v-1.given), rows_inside p.3 t, c.denominator-n.ensures.1, p.4)
+
+pub returns-then-not-row_near : goal.returns-then-not-row_near
+returns-then-not-row_near c =
+    let a = c.args in
+    rw (← c.denominator-n.ensures.0)
+    (row-not-near a.c c.denominator-n.result a.frame.width a.frame.height a.channel a.received.now (at a.frame a.across a.down a.plane.now) c.loop-v.v (λ u. get_or c.row_numerators.new.across.1.1.1.1.1.1.0 u (pos 0)) _ c.row_numerators.ensures c.row_near.ensures c.loop-v-test.true c.if-not-row_near.true)
+
+pub loop-v-preserved : goal.loop-v-preserved
+loop-v-preserved c =
+    let a = c.args in
+    let L = c.loop-v in (
+      omega (arith, c.loop-v-test.true),
+      one-row-more a.c c.denominator-n.result a.frame.width a.frame.height a.channel a.received.now (at a.frame a.across a.down a.plane.now) L.v (λ u. get_or c.row_numerators.new.across.1.1.1.1.1.1.0 u (pos 0)) _ c.row_numerators.ensures c.row_near.ensures L.invariant.1 c.if-not-row_near.false,
+      search rules,
+      search rules,
+      search rules,
+    )
+
+pub returns : goal.returns
+returns c =
+    let a = c.args in
+    let L = c.loop-v in
+    rw (← c.denominator-n.ensures.0) (all-rows-near a.c c.denominator-n.result a.frame.width a.frame.height a.channel a.received.now (at a.frame a.across a.down a.plane.now) L.v L.invariant.0 c.loop-v-test.false L.invariant.1)

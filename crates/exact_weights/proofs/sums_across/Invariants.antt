@@ -1,0 +1,24 @@
+-- `exact_weights::sums_across` meets its contract: tap by tap. Assumes nothing.
+use Prim.Native.Nat.{ℕ, ◌+◌, ◌-◌, ◌≤◌}
+use native.Mathlib.Nat.{le_antisymm}
+use native.Mathlib.Omega.{arith}
+use mathlib.Core.Path.{◌≡◌, refl, ap, ◌∙◌}
+use mathlib.Core.List.{List, ◌++◌}
+use mir.Syntax.{w32}
+use mir.Val.{to_z, of_z}
+use lib.ListN.{length, get_or, drop, length-drop}
+use lib.IntN.{ℤ, pos}
+use Rattle.lists.specs.Tabulate.{tabulate}
+use Rattle.lists.proofs.Part.{tail_mid}
+use Rattle.lists.proofs.Tabulate.{length_filled, filled_behind, filled_at, tabulate_ext}
+use Rattle.tap_sums.specs.HeldSums.{held_sum}
+use Rattle.tap_sums.proofs.SumLaws.{weight_size}
+use Rattle.tap_sums.proofs.PartialSums.{partial, partial_more, partial_size, shifted}
+use Rattle.exact_weights.proofs.Sums.{all_taps, size_small}
+use Rattle.exact_weights.proofs.sums_across.Given as goal
+
+abbrev pub invariant-loop-k : goal.invariant-loop-k
+invariant-loop-k l = (l.k ≤ l.len) × (l.wide ≡ tabulate (partial l.offsets l.weights (at_offset l.sums) (pos 0) l.k) l.w ++ drop l.w l.initial.wide) × (length l.wide ≡ length l.initial.wide)
+
+abbrev pub decreases-loop-k : goal.decreases-loop-k
+decreases-loop-k l = l.len - l.k

@@ -1,0 +1,18 @@
+-- `histograms::take_column` meets its contract: what is taken off so far. Assumes nothing.
+use Prim.Native.Nat.{◌+◌, ◌-◌, ◌≤◌}
+use native.Mathlib.Nat.{le_antisymm}
+use native.Mathlib.Omega.{arith}
+use mathlib.Core.Path.{◌≡◌}
+use lib.ListN.{length, get_or, length-set}
+use Rattle.lists.specs.Tabulate.{tabulate}
+use Rattle.histograms.specs.Histogram.{below_level, counted}
+use Rattle.histograms.specs.Column.{column_of}
+use Rattle.histograms.proofs.Counts.{counted_none, taken_more, still-counted}
+use Rattle.histograms.proofs.Below.{below_none_of, below-one-more, few_below}
+use Rattle.histograms.proofs.take_column.Given as goal
+
+abbrev pub invariant-loop-k : goal.invariant-loop-k
+invariant-loop-k l = (l.k ≤ l.n) × (l.initial.counts ≡ counted l.counts (tabulate (λ i. get_or l.plane (get_or l.rows i 0 + l.c) 0) l.k)) × (length l.counts ≡ 256) × (l.lower ≡ below_level l.level (tabulate (λ i. get_or l.plane (get_or l.rows i 0 + l.c) 0) l.k))
+
+abbrev pub decreases-loop-k : goal.decreases-loop-k
+decreases-loop-k l = l.n - l.k

@@ -1,0 +1,15 @@
+-- `mean_rows::window_sum` meets its contract. Assumes nothing.
+use Rattle.std.proofs.Common.{◌+◌, arith, rules}
+use Rattle.mean_rows.specs.Corners.{corners}
+use Rattle.mean_rows.proofs.Corners.{three_differences}
+use Rattle.mean_rows.proofs.window_sum.Goals as goal
+
+pub returns : goal.returns
+unfolding corners
+returns c =
+    let a = c.args in
+    three_differences _ _ _ _ c.wrapping_sub_u32-right.result c.wrapping_sub_u32-left.result _
+    (omega (arith, c.type_inv.upper (a.across + a.u)))
+    (omega (arith, c.type_inv.upper a.u))
+    (omega arith)
+    c.wrapping_sub_u32-right.ensures.value c.wrapping_sub_u32-left.ensures.value c.wrapping_sub_u32.ensures.value

@@ -1,0 +1,17 @@
+-- `rank_search::rank_row` meets its contract: each result is among the levels that are left for its column, down to one. Assumes nothing.
+use Prim.Native.Nat.{ℕ, ◌≤◌, ◌<◌}
+use native.Mathlib.Nat.{le_antisymm}
+use native.Mathlib.Omega.{arith}
+use mathlib.Core.Path.{◌≡◌, refl, ◌∙◌}
+use lib.ListN.{length, get_or, drop}
+use Rattle.lists.proofs.Tabulate.{filled_at, filled_behind}
+use Rattle.rank_search.specs.WindowAt.{window_at}
+use Rattle.rank_search.proofs.Search.{Among, among_all, halved_left, found-row, window_enough, window_bytes}
+use Rattle.rank_search.proofs.rank_row.Given as goal
+
+abbrev pub invariant-loop-levels : goal.invariant-loop-levels
+invariant-loop-levels l = (1 ≤ l.levels) × (l.levels ≤ 256) × (drop l.w l.dst ≡ drop l.w l.initial.dst) × ((u : ℕ) → u < l.w → Among l.p (window_at l.rows l.w l.r l.n u) l.levels (get_or l.dst u 0))
+    × (length l.dst ≡ length l.initial.dst) × (length l.seen ≡ length l.initial.seen)
+
+abbrev pub decreases-loop-levels : goal.decreases-loop-levels
+decreases-loop-levels l = l.levels

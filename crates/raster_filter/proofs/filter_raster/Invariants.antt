@@ -1,0 +1,22 @@
+-- `raster_filter::filter_raster` meets its contract: the channels so far are in place, and all else is as it was. Assumes nothing.
+use Prim.Native.Nat.{ℕ, ◌+◌, ◌*◌, ◌-◌, ◌≤◌}
+use native.Mathlib.Nat.{mul_comm, mul-le-mul, le_antisymm}
+use native.Mathlib.Omega.{arith}
+use mathlib.Core.Path.{◌≡◌, refl, sym, ap, ◌∙◌}
+use mathlib.Core.List.{List}
+use lib.ListN.{length, get_or}
+use lib.Seq.{get_or-take}
+use Rattle.model.specs.Stage.{written}
+use Rattle.recipe.specs.Recipe.{recipe_stages}
+use Rattle.channels.specs.Channel.{channel, placed}
+use Rattle.channels.proofs.Interleaved.{placed-none, placed-more, placed-all, channel-length}
+use Rattle.raster_filter.specs.FilteredRaster.{filtered_raster}
+use Rattle.stages.proofs.Through.{front_is, front_through}
+use Rattle.raster_filter.proofs.filter_raster.Given as goal
+
+abbrev pub invariant-loop-c : goal.invariant-loop-c
+invariant-loop-c l = (l.c ≤ l.channels) × (length l.work ≡ length l.initial.work) × (length l.rows ≡ length l.initial.rows) × (length l.sums ≡ length l.initial.sums) × (length l.out ≡ length l.initial.out)
+    × ((k : ℕ) → get_or l.out k 0 ≡ placed l.channels l.n (planes l.recipe l.w l.h l.channels l.n l.raster) l.initial.out l.c k)
+
+abbrev pub decreases-loop-c : goal.decreases-loop-c
+decreases-loop-c l = l.channels - l.c

@@ -1,0 +1,12 @@
+-- `raster_means::add_samples` meets its contract: what is stored so far, then what was there. Assumes nothing.
+use Prim.Native.Nat.{◌+◌, ◌-◌}
+use mathlib.Core.Path.{◌∙◌}
+use lib.ListN.{get_or}
+use Rattle.lists.proofs.Stored.{Stored, stored_none, stored_more, stored_next, stored_done}
+use Rattle.raster_means.proofs.add_samples.Given as goal
+
+abbrev pub invariant-loop-u : goal.invariant-loop-u
+invariant-loop-u l = Stored (λ k. get_or l.initial.sums k 0 + get_or l.samples k 0) l.n l.initial.sums l.sums l.u
+
+abbrev pub decreases-loop-u : goal.decreases-loop-u
+decreases-loop-u l = l.n - l.u

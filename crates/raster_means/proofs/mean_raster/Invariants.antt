@@ -1,0 +1,17 @@
+-- `raster_means::mean_raster` meets its contract: block by block. Assumes nothing.
+use Prim.Native.Nat.{ℕ, ◌+◌, ◌-◌, ◌≤◌}
+use native.Mathlib.Omega.{arith}
+use mathlib.Core.Path.{ap, ◌∙◌}
+use lib.ListN.{length, length-drop}
+use Rattle.lists.proofs.Part.{tail_mid}
+use Rattle.lists.proofs.Stored.{Stored, stored_none, stored_done}
+use Rattle.lists.proofs.Tabulate.{fill_part, length_filled}
+use Rattle.integers.specs.Divide.{nearest}
+use Rattle.raster_means.specs.Sums.{place_sum}
+use Rattle.raster_means.proofs.mean_raster.Given as goal
+
+abbrev pub invariant-loop-at : goal.invariant-loop-at
+invariant-loop-at l = Stored (λ j. nearest (place_sum l.rasters l.size l.k j) l.k) l.size l.initial.out l.out l.at
+
+abbrev pub decreases-loop-at : goal.decreases-loop-at
+decreases-loop-at l = l.size - l.at

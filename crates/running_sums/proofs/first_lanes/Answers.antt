@@ -1,0 +1,28 @@
+-- `running_sums::first_lanes` meets its contract. Assumes nothing.
+use Rattle.std.proofs.Common.{refl, arith, rules}
+use Rattle.running_sums.proofs.Blocks.{lanes_first}
+use Rattle.running_sums.proofs.first_lanes.Goals as goal
+
+pub overflow_cast-one : goal.overflow_cast-one
+overflow_cast-one c =
+    omega (arith, c.type_inv.row 0)
+
+pub overflow_cast-two : goal.overflow_cast-two
+overflow_cast-two c =
+    omega (arith, c.type_inv.row 1)
+
+pub overflow_add-two : goal.overflow_add-two
+overflow_add-two c =
+    record { fits = omega (arith, c.type_inv.row 0, c.type_inv.row 1) }
+
+pub overflow_cast-three : goal.overflow_cast-three
+overflow_cast-three c =
+    omega (arith, c.type_inv.row 2)
+
+pub overflow_add-three : goal.overflow_add-three
+overflow_add-three c =
+    record { fits = omega (arith, c.type_inv.row 0, c.type_inv.row 1, c.type_inv.row 2) }
+
+pub returns : goal.returns
+returns c =
+    lanes_first c.args.row.now _ c.requires (λ i. omega (arith, c.type_inv.row i)) refl refl refl refl

@@ -1,0 +1,13 @@
+-- `scripts::run` is safe. Assumes nothing.
+use native.Mathlib.Omega.{arith}
+use mathlib.Core.Path.{◌≡◌, sym, ◌∙◌}
+use lib.Seq.{length-take-le, length_front}
+use Prim.Native.Nat.{◌-◌}
+use lib.ListN.{length}
+use Rattle.scripts.proofs.run.Given as goal
+
+abbrev pub invariant-loop-at : goal.invariant-loop-at
+invariant-loop-at l = (length l.rasters ≡ 4096) × (length l.labels ≡ 4096)
+
+abbrev pub decreases-loop-at : goal.decreases-loop-at
+decreases-loop-at l = length l.script - l.at

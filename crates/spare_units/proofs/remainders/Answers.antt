@@ -1,0 +1,54 @@
+-- `spare_units::remainders` meets its contract: the remainders and their count so far. Assumes nothing.
+use Prim.Native.Nat.{ℕ, ◌-◌, ◌+◌, ◌*◌, ◌%◌, ◌≤◌}
+use native.Mathlib.Nat.{le_antisymm}
+use native.Mathlib.Omega.{arith}
+use mathlib.Core.Path.{◌≡◌, refl, sym, ap, ◌∙◌}
+use mathlib.Core.Bool.{cond}
+use mathlib.Core.List.{◌++◌}
+use lib.Dec.{ltb}
+use lib.ListN.{length, get_or, drop, length-set}
+use lib.IntN.{ℤ, pos, ◌*ℤ◌}
+use Rattle.lists.specs.Tabulate.{tabulate}
+use Rattle.lists.specs.Count.{count}
+use Rattle.lists.proofs.Tabulate.{fill_none, fill_more, filled_front}
+use Rattle.lists.proofs.Sums.{count-more, count_none}
+use Rattle.numerators.specs.Numerator.{numerator_of, remainder_of}
+use Rattle.numerators.proofs.Biased.{modulo_biased}
+use Rattle.spare_units.proofs.remainders.Goals as goal
+
+pub loop-i-init : goal.loop-i-init
+loop-i-init c =
+    (omega arith, fill_none _ _, refl, omega arith, sym (count_none _ _))
+
+pub raised-requires : goal.raised-requires
+raised-requires c =
+    (c.requires.3, c.requires.4 c.loop-i.i c.loop-i-test.true)
+
+pub bounds-rest-i : goal.bounds-rest-i
+bounds-rest-i c =
+    omega (arith, c.loop-i.invariant.2)
+
+pub overflow_add-rounded : goal.overflow_add-rounded
+overflow_add-rounded c =
+    omega (arith, c.bit-rounded.ensures.0, c.loop-i.invariant.3)
+
+pub loop-i-preserved : goal.loop-i-preserved
+unfolding remainder_of
+loop-i-preserved c =
+    let L = c.loop-i in
+    let a = c.args in
+    let f : ℕ → ℕ = λ k. remainder_of (get_or a.values.now k 0) a.divisor in
+    let left : f L.i ≡ c.raised.result % a.divisor = modulo_biased (pos 65536 *ℤ numerator_of (get_or a.values.now L.i 0)) a.divisor 262144 c.raised.result c.requires.2 c.raised.ensures in
+    let one = c.bit-rounded.ensures.1 ∙ ap (λ (k : ℕ). cond {A = ℕ} (ltb 0 k) 1 0) (sym left) in (
+      omega arith,
+      fill_more _ _ _ _ _ (omega (arith, L.invariant.2)) L.invariant.1 (sym left),
+      simp length-set L.invariant.2,
+      omega (arith, c.bit-rounded.ensures.0, L.invariant.3),
+      omega (arith, count-more (ltb 0) f L.i, one, L.invariant.4),
+    )
+
+pub returns : goal.returns
+returns c =
+    let L = c.loop-i in
+    let n = c.args.n in
+    (sym L.invariant.2, filled_front _ n L.i _ _ L.invariant.0 c.loop-i-test.false L.invariant.1, rw (le_antisymm L.invariant.0 c.loop-i-test.false) at L.invariant.4)

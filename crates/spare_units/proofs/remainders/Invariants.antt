@@ -1,0 +1,23 @@
+-- `spare_units::remainders` meets its contract: the remainders and their count so far. Assumes nothing.
+use Prim.Native.Nat.{ℕ, ◌-◌, ◌+◌, ◌*◌, ◌%◌, ◌≤◌}
+use native.Mathlib.Nat.{le_antisymm}
+use native.Mathlib.Omega.{arith}
+use mathlib.Core.Path.{◌≡◌, refl, sym, ap, ◌∙◌}
+use mathlib.Core.Bool.{cond}
+use mathlib.Core.List.{◌++◌}
+use lib.Dec.{ltb}
+use lib.ListN.{length, get_or, drop, length-set}
+use lib.IntN.{ℤ, pos, ◌*ℤ◌}
+use Rattle.lists.specs.Tabulate.{tabulate}
+use Rattle.lists.specs.Count.{count}
+use Rattle.lists.proofs.Tabulate.{fill_none, fill_more, filled_front}
+use Rattle.lists.proofs.Sums.{count-more, count_none}
+use Rattle.numerators.specs.Numerator.{numerator_of, remainder_of}
+use Rattle.numerators.proofs.Biased.{modulo_biased}
+use Rattle.spare_units.proofs.remainders.Given as goal
+
+abbrev pub invariant-loop-i : goal.invariant-loop-i
+invariant-loop-i l = (l.i ≤ l.n) × (l.rest ≡ tabulate (λ (k : ℕ). remainder_of (get_or l.values k 0) l.divisor) l.i ++ drop l.i l.initial.rest) × (length l.rest ≡ length l.initial.rest) × (l.rounded ≤ l.i) × (l.rounded ≡ count (ltb 0) (tabulate (λ (k : ℕ). remainder_of (get_or l.values k 0) l.divisor) l.i))
+
+abbrev pub decreases-loop-i : goal.decreases-loop-i
+decreases-loop-i l = l.n - l.i

@@ -1,0 +1,17 @@
+-- `taps::offsets_from` meets its contract. Assumes nothing.
+use Prim.Native.Nat.{ℕ, ◌+◌, ◌-◌, ◌≤◌}
+use native.Mathlib.Omega.{arith}
+use mathlib.Core.Path.{◌≡◌, refl, sym}
+use mathlib.Core.List.{◌++◌}
+use lib.ListN.{length, drop, length-set}
+use Rattle.lists.specs.Tabulate.{tabulate}
+use Rattle.lists.proofs.Tabulate.{fill_none, fill_more, filled_front}
+use Rattle.recipe_bytes.specs.Bytes.{at}
+use Rattle.taps.specs.Held.{held_offset}
+use Rattle.taps.proofs.offsets_from.Given as goal
+
+abbrev pub invariant-loop-i : goal.invariant-loop-i
+invariant-loop-i l = (l.i ≤ l.n) × (l.held ≡ tabulate (λ (k : ℕ). held_offset (at l.part (l.o + k))) l.i ++ drop l.i l.initial.held) × (length l.held ≡ length l.initial.held)
+
+abbrev pub decreases-loop-i : goal.decreases-loop-i
+decreases-loop-i l = l.n - l.i

@@ -1,0 +1,23 @@
+-- `weighted_columns::column_sums` meets its contract: tap by tap. Assumes nothing.
+use Prim.Native.Nat.{ℕ, ◌+◌, ◌*◌, ◌-◌, ◌≤◌}
+use native.Mathlib.Nat.{le_antisymm, le_trans, add_comm, mul-le-mul}
+use native.Mathlib.Omega.{arith}
+use mathlib.Core.Path.{◌≡◌, refl, ap, ◌∙◌}
+use mathlib.Core.List.{List, ◌++◌}
+use mir.Syntax.{w32}
+use mir.Val.{to_z, of_z}
+use lib.ListN.{length, get_or, drop, length-drop}
+use lib.IntN.{ℤ, pos}
+use Rattle.lists.specs.Tabulate.{tabulate}
+use Rattle.lists.proofs.Part.{tail_mid}
+use Rattle.lists.proofs.Tabulate.{length_filled, filled_behind, filled_at}
+use Rattle.tap_sums.specs.HeldSums.{held_sum}
+use Rattle.tap_sums.proofs.SumLaws.{weight_size}
+use Rattle.tap_sums.proofs.PartialSums.{partial, partial_more, partial_size, shifted}
+use Rattle.weighted_columns.proofs.column_sums.Given as goal
+
+abbrev pub invariant-loop-k : goal.invariant-loop-k
+invariant-loop-k l = (l.k ≤ l.len) × (l.sums ≡ tabulate (partial l.offsets l.weights (at_offset l.rows l.w l.first) (pos 2097152) l.k) l.w ++ drop l.w l.initial.sums) × (length l.sums ≡ length l.initial.sums)
+
+abbrev pub decreases-loop-k : goal.decreases-loop-k
+decreases-loop-k l = l.len - l.k
