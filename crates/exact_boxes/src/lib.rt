@@ -20,7 +20,7 @@ fn first_columns(frame: Frame, s: usize, plane: &[u8], row: &mut [u8], sums: &mu
     ensures { sums.new ≡ tabulate (λ x. column_sum frame plane.now s x 0) (frame.width + 30) ++ drop (frame.width + 30) sums.old }
 {
     let n = frame.width + 30;
-    row_sums::start(sums, n, 0);
+    row_sums::start_at(sums, n, 0);
     let mut j = 0;
     while j < 2 * s + 1 {
         frame::padded_row(frame, plane, 15 - s + j, row);

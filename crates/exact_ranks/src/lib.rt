@@ -64,7 +64,7 @@ fn carried_near(
     let mut wide = [0i64; 8192];
     let mut v = 0;
     while v < h {
-        carried_ranks::rank_row(frame, window, p, v, plane, &mut counts, &mut levels);
+        carried_rank_rows::rank_row(frame, window, p, v, plane, &mut counts, &mut levels);
         if !levels_near(received, channel, w, v, &levels, &mut wide, c) {
             return false;
         }

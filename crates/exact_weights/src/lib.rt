@@ -25,7 +25,7 @@ fn sums_down(frame: Frame, plane: &[u8], down: Taps, v: usize, row: &mut [u8], s
     let len = down.len;
     let offsets = down.offsets;
     let weights = down.weights;
-    row_sums::start(sums, n, 0);
+    row_sums::start_at(sums, n, 0);
     let mut k = 0;
     while k < len {
         frame::padded_row(frame, plane, v + offsets[k] as usize, row);

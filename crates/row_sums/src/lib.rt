@@ -5,8 +5,8 @@ ghost use Rattle.std.specs.Prelude.{◌≡◌, ◌++◌, ℕ, ◌≤◌, ◌<◌
 ghost use Rattle.integers.specs.Divide.{floor_div};
 ghost use Rattle.lists.specs.Tabulate.{tabulate};
 
-// The first n sums begin at a value: the half that rounds them, or 0.
-pub fn start(sums: &mut [i32], n: usize, value: i32)
+// The first n sums begin at a value.
+pub fn start_at(sums: &mut [i32], n: usize, value: i32)
     requires { n ≤ length sums.old }
     ensures { sums.new ≡ tabulate (λ _. value) n ++ drop n sums.old }
 {
@@ -15,6 +15,14 @@ pub fn start(sums: &mut [i32], n: usize, value: i32)
         sums[u] = value;
         u += 1;
     }
+}
+
+// The first n sums begin at the half that rounds them.
+pub fn start(sums: &mut [i32], n: usize)
+    requires { n ≤ length sums.old }
+    ensures { sums.new ≡ tabulate (λ _. pos 512) n ++ drop n sums.old }
+{
+    start_at(sums, n, 512);
 }
 
 // A sum and one tap's product more.

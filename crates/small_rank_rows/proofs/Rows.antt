@@ -18,7 +18,7 @@ use Rattle.frame.specs.Framed.{neighbours}
 use Rattle.frame.specs.Padded.{padded}
 use Rattle.frame.proofs.Supplied.{window-padded}
 use Rattle.rank_search.specs.WindowAt.{window_at}
-use Rattle.small_rank_rows.specs.HeldRows.{HeldRows}
+use Rattle.small_ranks.specs.HeldRows.{HeldRows}
 
 module _ (f : Frame) (samples : List ℕ) where
   -- no slot holds a row yet

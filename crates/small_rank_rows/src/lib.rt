@@ -6,7 +6,7 @@ ghost use Rattle.lists.specs.Tabulate.{tabulate};
 ghost use Rattle.model.specs.Window.{area};
 ghost use Rattle.model.specs.Rank.{rank_result};
 ghost use Rattle.frame.specs.Framed.{Framed, neighbours};
-ghost use Rattle.small_rank_rows.specs.HeldRows.{HeldRows};
+ghost use Rattle.small_ranks.specs.HeldRows.{HeldRows};
 
 use frame::Frame;
 use stage_values::Window;

@@ -1,12 +1,44 @@
 // Levels: the taps down. Taps are the outer loop and columns the inner one.
 #![tactic(auto)]
 
-ghost use Rattle.std.specs.Prelude.{◌≡◌, ◌++◌, ℕ, ◌+◌, ◌-◌, ◌*◌, ◌^◌, ◌≤◌, ◌<◌, length, get_or, drop, pos, nat_abs, ◌+ℤ◌};
+ghost use Rattle.std.specs.Prelude.{◌≡◌, ◌++◌, ℕ, ◌+◌, ◌-◌, ◌*◌, ◌^◌, ◌≤◌, ◌<◌, length, get_or, drop, pos, nat_abs, ◌+ℤ◌, ◌*ℤ◌};
 ghost use Rattle.integers.specs.Divide.{floor_div, clamp};
 ghost use Rattle.lists.specs.Tabulate.{tabulate, raster};
 ghost use Rattle.tap_sums.specs.HeldSums.{axis_sum, Light, Reaches, level_of};
 
 use stage_values::Axis;
+
+// The first n sums begin at the half that rounds them.
+fn start(sums: &mut [i64], n: usize)
+    requires { n ≤ length sums.old }
+    ensures { sums.new ≡ tabulate (λ _. pos (2 ^ 21)) n ++ drop n sums.old }
+{
+    let mut u = 0;
+    while u < n {
+        sums[u] = 2097152;
+        u += 1;
+    }
+}
+
+// A sum and one tap's product more.
+fn plus(sum: i64, weight: i32, h: i32) -> i64
+    requires { (nat_abs sum ≤ 2 ^ 60) × (nat_abs weight ≤ 262175) × (nat_abs h ≤ 65536) }
+    ensures { result ≡ sum +ℤ weight *ℤ h }
+{
+    sum + weight as i64 * h as i64
+}
+
+// One tap's products along a row of row values.
+fn add_tap(sums: &mut [i64], n: usize, row: &[i32], weight: i32)
+    requires { (n ≤ length sums.old) × (n ≤ length row.now) × (nat_abs weight ≤ 262175) × ((u : ℕ) → u < n → nat_abs (get_or sums.old u (pos 0)) ≤ 2 ^ 60) × ((u : ℕ) → u < n → nat_abs (get_or row.now u (pos 0)) ≤ 65536) }
+    ensures { sums.new ≡ tabulate (λ u. get_or sums.old u (pos 0) +ℤ weight *ℤ get_or row.now u (pos 0)) n ++ drop n sums.old }
+{
+    let mut u = 0;
+    while u < n {
+        sums[u] = plus(sums[u], weight, row[u]);
+        u += 1;
+    }
+}
 
 // A sum as a level, rounded down and clamped: its half is in it.
 fn level(sum: i64) -> u8
@@ -42,11 +74,11 @@ fn column_sums(rows: &[i32], w: usize, first: usize, axis: Axis, sums: &mut [i64
     let len = axis.len;
     let offsets = axis.offsets;
     let weights = axis.weights;
-    wide_sums::start(sums, w, 2097152);
+    start(sums, w);
     let mut k = 0;
     while k < len {
         let at = (offsets[k] as usize - first) * w;
-        wide_sums::add_tap(sums, w, &rows[at..], weights[k]);
+        add_tap(sums, w, &rows[at..], weights[k]);
         k += 1;
     }
 }

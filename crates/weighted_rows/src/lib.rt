@@ -15,7 +15,7 @@ pub fn row_values(row: &[u8], n: usize, axis: Axis, sums: &mut [i32])
     let len = axis.len;
     let offsets = axis.offsets;
     let weights = axis.weights;
-    row_sums::start(sums, n, 512);
+    row_sums::start(sums, n);
     let mut k = 0;
     while k < len {
         let at = offsets[k] as usize;

@@ -1,66 +1,102 @@
--- `carried_ranks::rank_along` meets its contract: the samples stored so far, for whatever row has these rows in its windows; what is counted is the window of the sample that comes next, and so many of its samples are below the level that is carried along. Assumes nothing.
-use Prim.Native.Nat.{ℕ, ◌+◌, ◌-◌, ◌*◌}
+-- `carried_ranks::rank_along` meets its contract: the samples stored so far, in place of what was there; the plane behind is as it was; what is counted is the window of the sample that comes next, and so many of its samples are below the level that is carried along. Assumes nothing.
+use Prim.Native.Nat.{◌+◌, ◌-◌, ◌*◌, ◌≤◌, ◌<◌}
+use native.Mathlib.Nat.{le_antisymm}
 use native.Mathlib.Omega.{arith}
 use mathlib.Core.Path.{◌≡◌, refl, sym, ◌∙◌}
+use lib.ListN.{length, take, drop, set, length-set}
+use lib.Seq.{drop-set-lt}
 use Rattle.frame.specs.Framed.{neighbours}
+use Rattle.lists.proofs.Raster.{row_fits}
 use Rattle.model.specs.Rank.{rank_result}
 use Rattle.histograms.specs.Histogram.{histogram}
 use Rattle.histograms.specs.Position.{Summed}
 use Rattle.histograms.proofs.Counts.{length-histogram}
 use Rattle.histograms.proofs.Below.{total-none}
-use Rattle.window_columns.specs.Rows.{row_starts}
 use Rattle.window_columns.specs.Columns.{column_in, side_by_side}
 use Rattle.window_columns.proofs.Placed.{starts_rows}
-use Rattle.lists.proofs.Stored.{Stored, stored_none, stored_more, stored_done}
+use Rattle.lists.proofs.StoredAt.{stored, stored_none, stored_more}
+use Rattle.kept_planes.proofs.Planes.{part_behind, plane_behind, plane_small, kept_bytes}
 use Rattle.carried_ranks.proofs.RankWindow.{level-there, rank-found}
 use Rattle.carried_ranks.proofs.rank_along.Goals as goal
+
+pub overflow_mul-n : goal.overflow_mul-n
+overflow_mul-n c =
+    let room : let n = c.args.frame.height * c.args.frame.width in (n + n ≤ length c.args.work.now) × (n ≤ 67108864) × (c.args.v * c.args.frame.width + c.args.frame.width ≤ n) = (plane_behind _ _ refl c.requires.0, plane_small c.requires.0, row_fits c.args.v c.args.frame.height c.args.frame.width c.requires.1) in
+    record { fits = omega (arith, room) }
+
+pub overflow_mul-start : goal.overflow_mul-start
+overflow_mul-start c =
+    let room : let n = c.args.frame.height * c.args.frame.width in (n + n ≤ length c.args.work.now) × (n ≤ 67108864) × (c.args.v * c.args.frame.width + c.args.frame.width ≤ n) = (plane_behind _ _ refl c.requires.0, plane_small c.requires.0, row_fits c.args.v c.args.frame.height c.args.frame.width c.requires.1) in
+    record { fits = omega (arith, room) }
 
 pub loop-u-init : goal.loop-u-init
 loop-u-init c =
     let left : 15 - c.args.window.r + 0 ≡ 15 - c.args.window.r = omega arith in
-    ((λ s v _ _. stored_none _ _ _), rw left c.requires.7, sym (total-none _))
+    (omega arith, stored_none _ _ _, refl, refl, rw left c.requires.7, sym (total-none _))
 
 pub reach-here-requires : goal.reach-here-requires
 reach-here-requires c =
     let a = c.args in
     let p = c.requires in
     let L = c.loop-u in
-    level-there a.frame a.plane.now a.window.r a.window.s a.p L.u p.6.0 p.1 p.2 p.3 p.4 L.counts (rw p.6.1 at L.invariant.1) L.at (omega (arith, c.well-formed)) (λ i. omega (arith, c.type_inv.rows i)) L.invariant.2
+    let n = a.frame.height * a.frame.width in
+    level-there a.frame (take n (drop n a.work.now)) a.window.r a.window.s a.p L.u a.v p.2 p.3 p.4 p.5 L.counts (rw p.6 at L.invariant.4) L.at (omega (arith, c.well-formed)) (kept_bytes n a.work.now (λ i. omega (arith, c.slice_known-2-1.given i))) L.invariant.5
 
-pub bounds-dst-u : goal.bounds-dst-u
-bounds-dst-u c =
-    let p = c.requires in
-    omega (arith, p.5, c.loop-u-test.true, (c.loop-u.invariant.0 _ p.6.0 refl p.6.1).long)
+pub overflow_add-work : goal.overflow_add-work
+overflow_add-work c =
+    let room : let n = c.args.frame.height * c.args.frame.width in (n + n ≤ length c.args.work.now) × (n ≤ 67108864) × (c.args.v * c.args.frame.width + c.args.frame.width ≤ n) = (plane_behind _ _ refl c.requires.0, plane_small c.requires.0, row_fits c.args.v c.args.frame.height c.args.frame.width c.requires.1) in
+    omega (arith, room)
+
+pub bounds-work-start : goal.bounds-work-start
+bounds-work-start c =
+    let room : let n = c.args.frame.height * c.args.frame.width in (n + n ≤ length c.args.work.now) × (n ≤ 67108864) × (c.args.v * c.args.frame.width + c.args.frame.width ≤ n) = (plane_behind _ _ refl c.requires.0, plane_small c.requires.0, row_fits c.args.v c.args.frame.height c.args.frame.width c.requires.1) in
+    omega (arith, room)
+
+pub overflow_add-behind : goal.overflow_add-behind
+overflow_add-behind c =
+    let room : let n = c.args.frame.height * c.args.frame.width in (n + n ≤ length c.args.work.now) × (n ≤ 67108864) × (c.args.v * c.args.frame.width + c.args.frame.width ≤ n) = (plane_behind _ _ refl c.requires.0, plane_small c.requires.0, row_fits c.args.v c.args.frame.height c.args.frame.width c.requires.1) in
+    omega (arith, room)
+
+pub slice_bounds-behind-start : goal.slice_bounds-behind-start
+slice_bounds-behind-start c =
+    let room : let n = c.args.frame.height * c.args.frame.width in (n + n ≤ length c.args.work.now) × (n ≤ 67108864) × (c.args.v * c.args.frame.width + c.args.frame.width ≤ n) = (plane_behind _ _ refl c.requires.0, plane_small c.requires.0, row_fits c.args.v c.args.frame.height c.args.frame.width c.requires.1) in
+    omega (arith, room)
+
+pub slice_bounds-behind-end : goal.slice_bounds-behind-end
+slice_bounds-behind-end c =
+    let room : let n = c.args.frame.height * c.args.frame.width in (n + n ≤ length c.args.work.now) × (n ≤ 67108864) × (c.args.v * c.args.frame.width + c.args.frame.width ≤ n) = (plane_behind _ _ refl c.requires.0, plane_small c.requires.0, row_fits c.args.v c.args.frame.height c.args.frame.width c.requires.1) in
+    omega (arith, room, c.loop-u.invariant.2, length-set c.loop-u.work (c.args.v * c.args.frame.width + c.loop-u.u) c.reach-here.result.level)
 
 pub next_window-at-requires : goal.next_window-at-requires
 next_window-at-requires c =
+    let room : let n = c.args.frame.height * c.args.frame.width in (n + n ≤ length c.args.work.now) × (n ≤ 67108864) × (c.args.v * c.args.frame.width + c.args.frame.width ≤ n) = (plane_behind _ _ refl c.requires.0, plane_small c.requires.0, row_fits c.args.v c.args.frame.height c.args.frame.width c.requires.1) in
     let a = c.args in
     let p = c.requires in
     let L = c.loop-u in
-    let back : 16 - a.window.r + L.u - 1 ≡ 15 - a.window.r + L.u = omega (arith, p.1) in
-    rw back (p.0, rw p.6.1 (starts_rows _ _ _ p.0 _), omega arith, omega (arith, p.1), omega (arith, p.2), omega (arith, p.1), omega (arith, p.0.width, c.loop-u-test.true), L.invariant.1, c.reach-here.ensures.summed)
+    let n = a.frame.height * a.frame.width in
+    let front : a.v * a.frame.width + L.u < n = omega (arith, room, c.loop-u-test.true) in
+    let same : take (n + n - n) (drop n (set L.work (a.v * a.frame.width + L.u) c.reach-here.result.level)) ≡ take n (drop n a.work.now) = part_behind n _ ∙ rw drop-set-lt L.invariant.3 in
+    let back : 16 - a.window.r + L.u - 1 ≡ 15 - a.window.r + L.u = omega (arith, p.2) in
+    rw (same, back) (p.0, rw p.6 (starts_rows _ _ _ p.0 _), omega arith, omega (arith, p.2), omega (arith, p.3), omega (arith, p.2), omega (arith, p.0.width, c.loop-u-test.true), L.invariant.4, c.reach-here.ensures.summed)
 
 pub loop-u-preserved : goal.loop-u-preserved
 loop-u-preserved c =
+    let room : let n = c.args.frame.height * c.args.frame.width in (n + n ≤ length c.args.work.now) × (n ≤ 67108864) × (c.args.v * c.args.frame.width + c.args.frame.width ≤ n) = (plane_behind _ _ refl c.requires.0, plane_small c.requires.0, row_fits c.args.v c.args.frame.height c.args.frame.width c.requires.1) in
     let a = c.args in
     let p = c.requires in
     let L = c.loop-u in
-    let on : 15 - a.window.r + (L.u + 1) ≡ 16 - a.window.r + L.u = omega (arith, p.1) in (
-      (λ s v es e.
-          let same : a.window.s ≡ s = omega (arith, es) in
-          stored_more (L.invariant.0 s v es e) p.5 c.loop-u-test.true (rank-found a.frame a.plane.now a.window.r s a.p L.u v p.1 (rw same at p.2) p.3 (rw same at p.4) L.counts (rw (same, e) at L.invariant.1) c.reach-here.result (omega arith) c.reach-here.ensures)),
-      rw on c.next_window-at.ensures.0,
-      c.next_window-at.ensures.1,
-    )
+    let n = a.frame.height * a.frame.width in
+    let front : a.v * a.frame.width + L.u < n = omega (arith, room, c.loop-u-test.true) in
+    let same : take (n + n - n) (drop n (set L.work (a.v * a.frame.width + L.u) c.reach-here.result.level)) ≡ take n (drop n a.work.now) = part_behind n _ ∙ rw drop-set-lt L.invariant.3 in
+    let found = rank-found a.frame (take n (drop n a.work.now)) a.window.r a.window.s a.p L.u a.v p.2 p.3 p.4 p.5 L.counts (rw p.6 at L.invariant.4) c.reach-here.result (omega arith) c.reach-here.ensures in
+    let on : 15 - a.window.r + (L.u + 1) ≡ 16 - a.window.r + L.u = omega (arith, p.2) in
+    (omega arith, stored_more _ _ _ _ _ _ (omega (arith, room)) L.invariant.1 found, simp length-set L.invariant.2, rw drop-set-lt L.invariant.3, rw (on, ← same) c.next_window-at.ensures.0, c.next_window-at.ensures.1)
 
 pub shape_of-counts : goal.shape_of-counts
 shape_of-counts c =
-    length-histogram _ _ c.loop-u.invariant.1 ∙ sym (length-histogram _ _ c.requires.7)
-
-pub shape_of-dst : goal.shape_of-dst
-shape_of-dst c =
-    (c.loop-u.invariant.0 _ c.requires.6.0 refl c.requires.6.1).long
+    length-histogram _ _ c.loop-u.invariant.4 ∙ sym (length-histogram _ _ c.requires.7)
 
 pub returns : goal.returns
+unfolding stored
 returns c =
-    λ v e. stored_done (c.loop-u.invariant.0 _ v refl e) c.loop-u-test.false
+    rw (le_antisymm c.loop-u.invariant.0 c.loop-u-test.false) at c.loop-u.invariant.1

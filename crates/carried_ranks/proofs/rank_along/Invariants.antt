@@ -1,23 +1,27 @@
--- `carried_ranks::rank_along` meets its contract: the samples stored so far, for whatever row has these rows in its windows; what is counted is the window of the sample that comes next, and so many of its samples are below the level that is carried along. Assumes nothing.
-use Prim.Native.Nat.{ℕ, ◌+◌, ◌-◌, ◌*◌}
+-- `carried_ranks::rank_along` meets its contract: the samples stored so far, in place of what was there; the plane behind is as it was; what is counted is the window of the sample that comes next, and so many of its samples are below the level that is carried along. Assumes nothing.
+use Prim.Native.Nat.{◌+◌, ◌-◌, ◌*◌, ◌≤◌, ◌<◌}
+use native.Mathlib.Nat.{le_antisymm}
 use native.Mathlib.Omega.{arith}
 use mathlib.Core.Path.{◌≡◌, refl, sym, ◌∙◌}
+use lib.ListN.{length, take, drop, set, length-set}
+use lib.Seq.{drop-set-lt}
 use Rattle.frame.specs.Framed.{neighbours}
+use Rattle.lists.proofs.Raster.{row_fits}
 use Rattle.model.specs.Rank.{rank_result}
 use Rattle.histograms.specs.Histogram.{histogram}
 use Rattle.histograms.specs.Position.{Summed}
 use Rattle.histograms.proofs.Counts.{length-histogram}
 use Rattle.histograms.proofs.Below.{total-none}
-use Rattle.window_columns.specs.Rows.{row_starts}
 use Rattle.window_columns.specs.Columns.{column_in, side_by_side}
 use Rattle.window_columns.proofs.Placed.{starts_rows}
-use Rattle.lists.proofs.Stored.{Stored, stored_none, stored_more, stored_done}
+use Rattle.lists.proofs.StoredAt.{stored, stored_none, stored_more}
+use Rattle.kept_planes.proofs.Planes.{part_behind, plane_behind, plane_small, kept_bytes}
 use Rattle.carried_ranks.proofs.RankWindow.{level-there, rank-found}
 use Rattle.carried_ranks.proofs.rank_along.Given as goal
 
 abbrev pub invariant-loop-u : goal.invariant-loop-u
-invariant-loop-u l = ((s v : ℕ) → l.down ≡ 2 * s + 1 → l.rows ≡ row_starts l.frame (15 - s + v) (2 * s + 1) → Stored (λ k. rank_result l.r s l.p (neighbours l.frame l.plane k v)) l.w l.initial.dst l.dst l.u)
-    × (l.counts ≡ histogram (side_by_side (column_in l.frame l.plane l.rows l.down) (15 - l.r + l.u) l.across)) × Summed l.counts l.at
+invariant-loop-u l = (l.u ≤ l.w) × (l.work ≡ stored (λ k. rank_result l.r l.s l.p (neighbours l.frame (take l.n (drop l.n l.initial.work)) k l.v)) l.initial.work l.start l.u) × (length l.work ≡ length l.initial.work) × (take l.n (drop l.n l.work) ≡ (take l.n (drop l.n l.initial.work)))
+    × (l.counts ≡ histogram (side_by_side (column_in l.frame (take l.n (drop l.n l.initial.work)) l.rows l.down) (15 - l.r + l.u) l.across)) × Summed l.counts l.at
 
 abbrev pub decreases-loop-u : goal.decreases-loop-u
 decreases-loop-u l = l.w - l.u

@@ -1,23 +1,21 @@
 -- `carried_ranks::rank_rows` meets its contract: the rows so far in front, and behind the plane as it was. Assumes nothing.
-use Prim.Native.Nat.{◌+◌, ◌-◌, ◌*◌, ◌≤◌, ◌<◌}
-use native.Mathlib.Nat.{le_refl}
+use Prim.Native.Nat.{◌+◌, ◌-◌, ◌*◌, ◌≤◌}
+use native.Mathlib.Nat.{le_antisymm, zero-mul}
 use native.Mathlib.Omega.{arith}
-use mathlib.Core.Path.{◌≡◌, refl, ◌∙◌}
-use lib.ListN.{length, length-drop}
-use lib.Seq.{take_at}
+use mathlib.Core.Path.{◌≡◌, refl}
+use mathlib.Core.List.{◌++◌}
+use lib.ListN.{length, drop}
 use Rattle.frame.specs.Framed.{neighbours, worked}
-use Rattle.lists.proofs.Part.{tail_mid}
-use Rattle.lists.proofs.Raster.{length-raster}
-use Rattle.lists.proofs.Tabulate.{filled_front}
-use Rattle.lists.proofs.Stored.{StoredRows, rows_stored_none, rows_stored_more, rows_stored_done, row_room}
+use Rattle.lists.specs.Tabulate.{raster}
+use Rattle.lists.proofs.Raster.{rows_none}
 use Rattle.model.specs.Rank.{rank_result}
 use Rattle.kept_planes.specs.HeldRow.{kept}
-use Rattle.kept_planes.proofs.Planes.{part_behind, plane_behind, plane_small, kept_same}
+use Rattle.kept_planes.proofs.Planes.{behind_rows, rows_next, rows_front}
 use Rattle.carried_ranks.proofs.rank_rows.Given as goal
 
 abbrev pub invariant-loop-v : goal.invariant-loop-v
-invariant-loop-v l = StoredRows (λ i j. rank_result l.window.r l.window.s l.p (neighbours l.frame (kept l.frame l.initial.work) i j)) l.frame.width l.frame.height l.initial.work l.work l.at l.v
-    × (length l.counts ≡ 256) × (length l.row ≡ 8192)
+invariant-loop-v l = (l.v ≤ l.h) × (l.work ≡ raster (λ i j. rank_result l.window.r l.window.s l.p (neighbours l.frame (kept l.frame l.initial.work) i j)) l.frame.width l.v ++ drop (l.v * l.frame.width) l.initial.work)
+    × (length l.work ≡ length l.initial.work) × (length l.counts ≡ 256)
 
 abbrev pub decreases-loop-v : goal.decreases-loop-v
 decreases-loop-v l = l.h - l.v

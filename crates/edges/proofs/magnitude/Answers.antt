@@ -1,5 +1,5 @@
 -- `edges::magnitude` meets its contract: below 0 it is the number subtracted from 0. Assumes nothing.
-use Prim.Native.Nat.{◌+◌, ◌≤◌, ◌<◌}
+use Prim.Native.Nat.{◌≤◌, ◌<◌}
 use native.Mathlib.Omega.{arith}
 use mathlib.Core.Path.{◌≡◌, refl, ◌∙◌}
 use lib.IntN.{ℤ, pos, negsuc, nat_abs, ◌-ℤ◌}

@@ -1,13 +1,12 @@
 -- `edges::strength` meets its contract: kernel by kernel. Assumes nothing.
-use Prim.Native.Nat.{ℕ, ◌-◌, ◌≤◌, max}
-use native.Mathlib.Omega.{arith}
-use mathlib.Core.Path.{◌≡◌, refl, ap, ◌∙◌}
+use Prim.Native.Nat.{ℕ, max}
+use mathlib.Core.Path.{◌≡◌, ap, ◌∙◌}
 use mathlib.Core.List.{List}
 use lib.IntN.{ℤ, nat_abs}
 use mir.Syntax.{w16}
 use mir.Val.{to_z, of_z}
 use Rattle.model.specs.Outline.{response}
-use Rattle.edges.proofs.Responses.{weight_le, Strongest, strongest_none, strongest_more, strongest_all}
+use Rattle.edges.proofs.Responses.{weight_le, strongest_none, strongest_more, strongest_all}
 use borrow.Author.Rules.{rules}
 use Rattle.edges.proofs.strength.Goals as goal
 

@@ -13,7 +13,7 @@ use Rattle.exact_boxes.proofs.first_columns.Goals as goal
 
 pub loop-j-init : goal.loop-j-init
 loop-j-init c =
-    let a = c.args in (omega arith, front_none a.frame a.plane.now (15 - a.s) (a.frame.width + 30) _ _ c.start.ensures, refl, refl)
+    let a = c.args in (omega arith, front_none a.frame a.plane.now (15 - a.s) (a.frame.width + 30) _ _ c.start_at.ensures, refl, refl)
 
 pub add_tap-requires : goal.add_tap-requires
 add_tap-requires c =
@@ -46,5 +46,5 @@ returns c =
     let a = c.args in
     let n = a.frame.width + 30 in
     let all = rw (le_antisymm c.loop-j.invariant.0 c.loop-j-test.false) at c.loop-j.invariant.1 in
-    rw (filled_behind _ n _ _ c.start.ensures) at all
+    rw (filled_behind _ n _ _ c.start_at.ensures) at all
     ∙ ap (λ (t : List ℤ). t ++ drop n a.sums.now) (tabulate_ext _ _ n (λ x _. column_first a.frame a.plane.now a.s x))

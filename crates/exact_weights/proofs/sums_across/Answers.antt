@@ -25,7 +25,7 @@ at_offset sums u o = get_or sums (u + o) (pos 0)
 pub loop-k-init : goal.loop-k-init
 unfolding partial held_sum
 loop-k-init c =
-    let e = c.start.ensures in
+    let e = c.start_at.ensures in
     (omega arith, e ∙ rw (filled_behind _ _ _ _ e), refl)
 
 pub bounds-offsets-k : goal.bounds-offsets-k
@@ -86,5 +86,5 @@ returns c =
     let a = c.args in
     let L = c.loop-k in
     let k = le_antisymm L.invariant.0 c.loop-k-test.false in
-    rw (filled_behind _ a.w _ _ c.start.ensures) at (rw k at L.invariant.1)
+    rw (filled_behind _ a.w _ _ c.start_at.ensures) at (rw k at L.invariant.1)
     ∙ ap (λ (l : List ℤ). l ++ drop a.w a.wide.now) (tabulate_ext _ _ a.w (λ u _. all_taps a.across.offsets a.across.weights (at_offset a.sums.now) a.across.len u))

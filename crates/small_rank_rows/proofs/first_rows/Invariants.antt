@@ -3,7 +3,7 @@ use Prim.Native.Nat.{◌+◌, ◌*◌, ◌-◌, ◌≤◌}
 use native.Mathlib.Omega.{arith}
 use mathlib.Core.Path.{◌≡◌, refl, ◌∙◌}
 use lib.ListN.{length}
-use Rattle.small_rank_rows.specs.HeldRows.{HeldRows}
+use Rattle.small_ranks.specs.HeldRows.{HeldRows}
 use Rattle.small_rank_rows.proofs.Rows.{held_none}
 use Rattle.small_rank_rows.proofs.first_rows.Given as goal
 

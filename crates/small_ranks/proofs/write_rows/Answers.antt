@@ -1,134 +1,117 @@
--- `small_ranks::write_rows` meets its contract: the rows so far in front, behind the plane as it was, and the rows of the next windows in hand. Assumes nothing.
-use Prim.Native.Nat.{◌+◌, ◌-◌, ◌*◌, ◌≤◌, ◌<◌}
+-- `small_ranks::write_rows` meets its contract: row by row, with the rows of its windows in hand. The kept plane is as it was. Assumes nothing.
+use Prim.Native.Nat.{ℕ, ◌+◌, ◌*◌, ◌-◌, ◌≤◌, ◌<◌}
 use native.Mathlib.Nat.{le_refl}
 use native.Mathlib.Omega.{arith}
 use mathlib.Core.Path.{◌≡◌, refl, ◌∙◌}
-use lib.ListN.{length, take, drop, length-drop}
+use lib.ListN.{length, length-drop}
 use lib.Seq.{take_at}
 use Rattle.lists.proofs.Part.{tail_mid}
 use Rattle.lists.proofs.Raster.{length-raster}
-use Rattle.lists.proofs.Tabulate.{filled_front}
-use Rattle.lists.proofs.Stored.{StoredRows, rows_stored_none, rows_stored_more, rows_stored_done, row_room}
+use Rattle.lists.proofs.Stored.{StoredRows, rows_stored_none, rows_stored_done, row_room}
+use Rattle.model.specs.Window.{area}
 use Rattle.model.specs.Rank.{rank_result}
 use Rattle.frame.specs.Framed.{neighbours, worked}
+use Rattle.kept_planes.proofs.Planes.{plane_behind, plane_small, kept_same}
 use Rattle.kept_planes.specs.HeldRow.{kept}
-use Rattle.kept_planes.proofs.Planes.{part_behind, plane_behind, plane_small, kept_same}
-use Rattle.small_rank_rows.specs.HeldRows.{HeldRows}
+use Rattle.small_ranks.specs.HeldRows.{HeldRows}
+use Rattle.small_ranks.proofs.Rows.{held_none, held_next, results_stored}
 use Rattle.small_ranks.proofs.write_rows.Goals as goal
 
-pub overflow_mul-n : goal.overflow_mul-n
-overflow_mul-n c =
-    record { fits = omega (arith, plane_small c.requires.0) }
+-- its number, where the window is whole
+row-there : {y first h : ℕ} → y < first + h → first < y + 1 → y - first < h
+row-there t i = omega (arith, t, i)
 
-pub overflow_add-n : goal.overflow_add-n
-overflow_add-n c =
-    record { fits = omega (arith, plane_small c.requires.0) }
+-- one place less is left
+one_less : {y end : ℕ} → y < end → end - (y + 1) < end - y
+one_less t = omega (arith, t)
 
-pub slice_bounds-first_rows-end : goal.slice_bounds-first_rows-end
-slice_bounds-first_rows-end c =
-    plane_behind _ _ refl c.requires.0
+pub loop-y-init : goal.loop-y-init
+loop-y-init c =
+    let s = c.args.s in
+    let none : 14 - s - 2 * s - (14 - s) ≡ 0 = omega arith in
+    let all : 14 - s + 1 - (14 - s - 2 * s) ≡ 2 * s + 1 = omega (arith, c.requires.2) in
+    (rw none (rows_stored_none _ _ _ _), rw all (held_none _ _ _ _ _), refl, refl)
 
-pub first_rows-requires : goal.first_rows-requires
-first_rows-requires c =
+pub push_row-requires : goal.push_row-requires
+push_row-requires c =
     let a = c.args in
     let p = c.requires in
-    (rw (part_behind (a.frame.height * a.frame.width) a.work.now) p.0, p.2, p.5)
+    let L = c.loop-y in
+    (rw (kept_same a.frame _ a.work.now L.work L.invariant.0) p.0, omega (arith, c.loop-y-test.true, p.0.height.1), omega (arith, p.2), omega (arith, p.5, L.invariant.2))
 
-pub loop-v-init : goal.loop-v-init
-loop-v-init c =
-    let a = c.args in
-    let none : 14 - a.window.s + 0 ≡ 14 - a.window.s = omega arith in
-    (rows_stored_none _ _ _ _, rw none (rw (part_behind (a.frame.height * a.frame.width) a.work.now) at c.first_rows.ensures), refl, refl, refl)
+pub overflow_add-y : goal.overflow_add-y
+overflow_add-y c =
+    record { fits = omega (arith, c.loop-y-test.true, c.requires.0.height.1) }
 
-pub overflow_add-n-in-loop-v : goal.overflow_add-n-in-loop-v
-overflow_add-n-in-loop-v c =
-    let next_row : let a = c.args in let n = a.frame.height * a.frame.width in c.loop-v.v < a.frame.height
-    → (c.loop-v.at + a.frame.width ≤ n) × (n + n ≤ length c.loop-v.work) × (length c.loop-v.work ≡ length a.work.now) × (n ≤ 67108864) = λ t. let p = c.requires in
-    (row_room c.loop-v.invariant.0 t (le_refl _), omega (arith, plane_behind _ _ refl p.0, c.loop-v.invariant.0.long), c.loop-v.invariant.0.long, plane_small p.0) in
-    record { fits = omega (arith, next_row c.loop-v-test.true) }
+pub slice_bounds-rank_row-count : goal.slice_bounds-rank_row-count
+slice_bounds-rank_row-count c =
+    let next_row : let a = c.args in c.loop-y.y - (14 - a.s) < a.frame.height
+    → (c.loop-y.at + a.frame.width ≤ a.frame.height * a.frame.width) × (a.frame.height * a.frame.width ≤ length a.work.now) × (length c.loop-y.work ≡ length a.work.now) × (a.frame.height * a.frame.width ≤ 67108864) = λ t. let p = c.requires in (row_room c.loop-y.invariant.0 t (le_refl _), omega (arith, plane_behind _ _ refl p.0), c.loop-y.invariant.0.long, plane_small p.0) in
+    omega (arith, next_row (row-there c.loop-y-test.true c.if-first-y.true))
 
-pub slice_bounds-rank_row-end : goal.slice_bounds-rank_row-end
-slice_bounds-rank_row-end c =
-    let next_row : let a = c.args in let n = a.frame.height * a.frame.width in c.loop-v.v < a.frame.height
-    → (c.loop-v.at + a.frame.width ≤ n) × (n + n ≤ length c.loop-v.work) × (length c.loop-v.work ≡ length a.work.now) × (n ≤ 67108864) = λ t. let p = c.requires in
-    (row_room c.loop-v.invariant.0 t (le_refl _), omega (arith, plane_behind _ _ refl p.0, c.loop-v.invariant.0.long), c.loop-v.invariant.0.long, plane_small p.0) in
-    omega (arith, next_row c.loop-v-test.true)
+pub slice_bounds-rank_row-start : goal.slice_bounds-rank_row-start
+slice_bounds-rank_row-start c =
+    let next_row : let a = c.args in c.loop-y.y - (14 - a.s) < a.frame.height
+    → (c.loop-y.at + a.frame.width ≤ a.frame.height * a.frame.width) × (a.frame.height * a.frame.width ≤ length a.work.now) × (length c.loop-y.work ≡ length a.work.now) × (a.frame.height * a.frame.width ≤ 67108864) = λ t. let p = c.requires in (row_room c.loop-y.invariant.0 t (le_refl _), omega (arith, plane_behind _ _ refl p.0), c.loop-y.invariant.0.long, plane_small p.0) in
+    omega (arith, next_row (row-there c.loop-y-test.true c.if-first-y.true))
 
 pub rank_row-requires : goal.rank_row-requires
+unfolding area
 rank_row-requires c =
-    let plane-lent : let a = c.args in let n = a.frame.height * a.frame.width in
-    take (n + n - n) (drop n c.loop-v.work) ≡ kept a.frame a.work.now = let a = c.args in
-    part_behind (a.frame.height * a.frame.width) c.loop-v.work ∙ kept_same a.frame _ a.work.now c.loop-v.work c.loop-v.invariant.0 in
+    let next_row : let a = c.args in c.loop-y.y - (14 - a.s) < a.frame.height
+    → (c.loop-y.at + a.frame.width ≤ a.frame.height * a.frame.width) × (a.frame.height * a.frame.width ≤ length a.work.now) × (length c.loop-y.work ≡ length a.work.now) × (a.frame.height * a.frame.width ≤ 67108864) = λ t. let p = c.requires in (row_room c.loop-y.invariant.0 t (le_refl _), omega (arith, plane_behind _ _ refl p.0), c.loop-y.invariant.0.long, plane_small p.0) in
     let p = c.requires in
-    let L = c.loop-v in
-    rw (plane-lent) (p.0, p.1, p.2, p.3, p.4, c.loop-v-test.true, omega (arith, p.5, L.invariant.2, c.rows-1.given), omega (arith, p.6, L.invariant.3), omega (arith, p.7, L.invariant.4), L.invariant.1)
-
-pub slice_bounds-copy_front-count : goal.slice_bounds-copy_front-count
-slice_bounds-copy_front-count c =
-    let next_row : let a = c.args in let n = a.frame.height * a.frame.width in c.loop-v.v < a.frame.height
-    → (c.loop-v.at + a.frame.width ≤ n) × (n + n ≤ length c.loop-v.work) × (length c.loop-v.work ≡ length a.work.now) × (n ≤ 67108864) = λ t. let p = c.requires in
-    (row_room c.loop-v.invariant.0 t (le_refl _), omega (arith, plane_behind _ _ refl p.0, c.loop-v.invariant.0.long), c.loop-v.invariant.0.long, plane_small p.0) in
-    omega (arith, next_row c.loop-v-test.true)
-
-pub slice_bounds-copy_front-start : goal.slice_bounds-copy_front-start
-slice_bounds-copy_front-start c =
-    let next_row : let a = c.args in let n = a.frame.height * a.frame.width in c.loop-v.v < a.frame.height
-    → (c.loop-v.at + a.frame.width ≤ n) × (n + n ≤ length c.loop-v.work) × (length c.loop-v.work ≡ length a.work.now) × (n ≤ 67108864) = λ t. let p = c.requires in
-    (row_room c.loop-v.invariant.0 t (le_refl _), omega (arith, plane_behind _ _ refl p.0, c.loop-v.invariant.0.long), c.loop-v.invariant.0.long, plane_small p.0) in
-    omega (arith, next_row c.loop-v-test.true)
-
-pub copy_front-requires : goal.copy_front-requires
-copy_front-requires c =
-    let next_row : let a = c.args in let n = a.frame.height * a.frame.width in c.loop-v.v < a.frame.height
-    → (c.loop-v.at + a.frame.width ≤ n) × (n + n ≤ length c.loop-v.work) × (length c.loop-v.work ≡ length a.work.now) × (n ≤ 67108864) = λ t. let p = c.requires in
-    (row_room c.loop-v.invariant.0 t (le_refl _), omega (arith, plane_behind _ _ refl p.0, c.loop-v.invariant.0.long), c.loop-v.invariant.0.long, plane_small p.0) in
-    let L = c.loop-v in
-    (omega (arith, c.requires.7, c.row-1.given, L.invariant.4), rw (tail_mid L.at L.work, length-drop) (omega (arith, next_row c.loop-v-test.true)))
+    let L = c.loop-y in
+    (p.0.width.1, p.1, omega (arith, p.2), omega (arith, p.5, L.invariant.2), p.3, omega (arith, p.4), rw (tail_mid L.at L.work, length-drop) (omega (arith, next_row (row-there c.loop-y-test.true c.if-first-y.true))), omega (arith, p.6, L.invariant.3))
 
 pub overflow_add-at : goal.overflow_add-at
 overflow_add-at c =
-    let next_row : let a = c.args in let n = a.frame.height * a.frame.width in c.loop-v.v < a.frame.height
-    → (c.loop-v.at + a.frame.width ≤ n) × (n + n ≤ length c.loop-v.work) × (length c.loop-v.work ≡ length a.work.now) × (n ≤ 67108864) = λ t. let p = c.requires in
-    (row_room c.loop-v.invariant.0 t (le_refl _), omega (arith, plane_behind _ _ refl p.0, c.loop-v.invariant.0.long), c.loop-v.invariant.0.long, plane_small p.0) in
-    record { fits = omega (arith, next_row c.loop-v-test.true) }
+    let next_row : let a = c.args in c.loop-y.y - (14 - a.s) < a.frame.height
+    → (c.loop-y.at + a.frame.width ≤ a.frame.height * a.frame.width) × (a.frame.height * a.frame.width ≤ length a.work.now) × (length c.loop-y.work ≡ length a.work.now) × (a.frame.height * a.frame.width ≤ 67108864) = λ t. let p = c.requires in (row_room c.loop-y.invariant.0 t (le_refl _), omega (arith, plane_behind _ _ refl p.0), c.loop-y.invariant.0.long, plane_small p.0) in
+    record { fits = omega (arith, next_row (row-there c.loop-y-test.true c.if-first-y.true)) }
 
-pub overflow_add-v : goal.overflow_add-v
-overflow_add-v c =
-    record { fits = omega (arith, c.loop-v-test.true, c.requires.0.height.1) }
+pub loop-y-smaller-then-first-y : goal.loop-y-smaller-then-first-y
+loop-y-smaller-then-first-y c =
+    one_less c.loop-y-test.true
 
-pub loop-v-preserved : goal.loop-v-preserved
-loop-v-preserved c =
-    let next_row : let a = c.args in let n = a.frame.height * a.frame.width in c.loop-v.v < a.frame.height
-    → (c.loop-v.at + a.frame.width ≤ n) × (n + n ≤ length c.loop-v.work) × (length c.loop-v.work ≡ length a.work.now) × (n ≤ 67108864) = λ t. let p = c.requires in
-    (row_room c.loop-v.invariant.0 t (le_refl _), omega (arith, plane_behind _ _ refl p.0, c.loop-v.invariant.0.long), c.loop-v.invariant.0.long, plane_small p.0) in
-    let plane-lent : let a = c.args in let n = a.frame.height * a.frame.width in
-    take (n + n - n) (drop n c.loop-v.work) ≡ kept a.frame a.work.now = let a = c.args in
-    part_behind (a.frame.height * a.frame.width) c.loop-v.work ∙ kept_same a.frame _ a.work.now c.loop-v.work c.loop-v.invariant.0 in
-    let f = c.args.frame in
-    let L = c.loop-v in
-    let t = c.loop-v-test.true in
-    let made = rw (plane-lent) at c.rank_row.ensures in
-    let row = rw (filled_front _ f.width f.width _ _ (le_refl _) (le_refl _) made.0) at c.copy_front.ensures in
-    (rows_stored_more L.invariant.0 t _ (omega (arith, next_row t)) row, made.1, c.rows-in-loop-v-1.given ∙ L.invariant.2, c.seen-1.given ∙ L.invariant.3, c.row-1.given ∙ L.invariant.4)
+pub loop-y-preserved-then-first-y : goal.loop-y-preserved-then-first-y
+loop-y-preserved-then-first-y c =
+    let next_row : let a = c.args in c.loop-y.y - (14 - a.s) < a.frame.height
+    → (c.loop-y.at + a.frame.width ≤ a.frame.height * a.frame.width) × (a.frame.height * a.frame.width ≤ length a.work.now) × (length c.loop-y.work ≡ length a.work.now) × (a.frame.height * a.frame.width ≤ 67108864) = λ t. let p = c.requires in (row_room c.loop-y.invariant.0 t (le_refl _), omega (arith, plane_behind _ _ refl p.0), c.loop-y.invariant.0.long, plane_small p.0) in
+    let a = c.args in
+    let p = c.requires in
+    let L = c.loop-y in
+    let i = c.if-first-y.true in
+    let t = c.loop-y-test.true in
+    let held = held_next a.frame a.work.now L.work (14 - a.s) L.y _ (kept_same a.frame _ a.work.now L.work L.invariant.0) c.push_row.ensures L.invariant.1 in
+    (results_stored a.frame _ a.r a.s a.p L.y L.at _ p.1 p.2 i t (next_row (row-there t i)).1 L.invariant.0 held c.rank_row.ensures, held, c.rows-1.given ∙ L.invariant.2, c.seen-1.given ∙ L.invariant.3)
+
+pub loop-y-smaller : goal.loop-y-smaller
+loop-y-smaller c =
+    one_less c.loop-y-test.true
+
+pub loop-y-preserved : goal.loop-y-preserved
+loop-y-preserved c =
+    let a = c.args in
+    let L = c.loop-y in
+    let none : L.y - (14 - a.s) ≡ L.y + 1 - (14 - a.s) = omega (arith, c.if-first-y.false) in
+    (rw none at L.invariant.0, held_next a.frame a.work.now L.work (14 - a.s) L.y _ (kept_same a.frame _ a.work.now L.work L.invariant.0) c.push_row.ensures L.invariant.1, c.rows-1.given ∙ L.invariant.2, L.invariant.3)
 
 pub shape_of-work : goal.shape_of-work
 shape_of-work c =
-    c.loop-v.invariant.0.long
+    c.loop-y.invariant.0.long
 
 pub shape_of-rows : goal.shape_of-rows
 shape_of-rows c =
-    c.loop-v.invariant.2 ∙ c.rows-1.given
+    c.loop-y.invariant.2
 
 pub shape_of-seen : goal.shape_of-seen
 shape_of-seen c =
-    c.loop-v.invariant.3
-
-pub shape_of-row : goal.shape_of-row
-shape_of-row c =
-    c.loop-v.invariant.4
+    c.loop-y.invariant.3
 
 pub returns : goal.returns
 unfolding worked
 returns c =
     let f = c.args.frame in
-    rw (rows_stored_done c.loop-v.invariant.0 c.loop-v-test.false) (take_at _ _ (f.height * f.width) (length-raster _ f.width f.height))
+    let all : f.height ≤ c.loop-y.y - (14 - c.args.s) = omega (arith, c.loop-y-test.false) in
+    rw (rows_stored_done c.loop-y.invariant.0 all) (take_at _ _ (f.height * f.width) (length-raster _ f.width f.height))

@@ -1,24 +1,25 @@
--- `small_ranks::write_rows` meets its contract: the rows so far in front, behind the plane as it was, and the rows of the next windows in hand. Assumes nothing.
-use Prim.Native.Nat.{◌+◌, ◌-◌, ◌*◌, ◌≤◌, ◌<◌}
+-- `small_ranks::write_rows` meets its contract: row by row, with the rows of its windows in hand. The kept plane is as it was. Assumes nothing.
+use Prim.Native.Nat.{ℕ, ◌+◌, ◌*◌, ◌-◌, ◌≤◌, ◌<◌}
 use native.Mathlib.Nat.{le_refl}
 use native.Mathlib.Omega.{arith}
 use mathlib.Core.Path.{◌≡◌, refl, ◌∙◌}
-use lib.ListN.{length, take, drop, length-drop}
+use lib.ListN.{length, length-drop}
 use lib.Seq.{take_at}
 use Rattle.lists.proofs.Part.{tail_mid}
 use Rattle.lists.proofs.Raster.{length-raster}
-use Rattle.lists.proofs.Tabulate.{filled_front}
-use Rattle.lists.proofs.Stored.{StoredRows, rows_stored_none, rows_stored_more, rows_stored_done, row_room}
+use Rattle.lists.proofs.Stored.{StoredRows, rows_stored_none, rows_stored_done, row_room}
+use Rattle.model.specs.Window.{area}
 use Rattle.model.specs.Rank.{rank_result}
 use Rattle.frame.specs.Framed.{neighbours, worked}
+use Rattle.kept_planes.proofs.Planes.{plane_behind, plane_small, kept_same}
 use Rattle.kept_planes.specs.HeldRow.{kept}
-use Rattle.kept_planes.proofs.Planes.{part_behind, plane_behind, plane_small, kept_same}
-use Rattle.small_rank_rows.specs.HeldRows.{HeldRows}
+use Rattle.small_ranks.specs.HeldRows.{HeldRows}
+use Rattle.small_ranks.proofs.Rows.{held_none, held_next, results_stored}
 use Rattle.small_ranks.proofs.write_rows.Given as goal
 
-abbrev pub invariant-loop-v : goal.invariant-loop-v
-invariant-loop-v l = StoredRows (λ i j. rank_result l.window.r l.window.s l.p (neighbours l.frame (kept l.frame l.initial.work) i j)) l.frame.width l.frame.height l.initial.work l.work l.at l.v
-    × HeldRows l.frame (kept l.frame l.initial.work) (14 - l.window.s + l.v) 1 (2 * l.window.s + 1) l.rows × (length l.rows ≡ length l.initial.rows) × (length l.seen ≡ length l.initial.seen) × (length l.row ≡ length l.initial.row)
+abbrev pub invariant-loop-y : goal.invariant-loop-y
+invariant-loop-y l = StoredRows (λ i j. rank_result l.r l.s l.p (neighbours l.frame (kept l.frame l.initial.work) i j)) l.frame.width l.frame.height l.initial.work l.work l.at (l.y - l.first)
+    × HeldRows l.frame (kept l.frame l.initial.work) l.y (l.first + 1 - l.y) (l.last + 1) l.rows × (length l.rows ≡ length l.initial.rows) × (length l.seen ≡ length l.initial.seen)
 
-abbrev pub decreases-loop-v : goal.decreases-loop-v
-decreases-loop-v l = l.h - l.v
+abbrev pub decreases-loop-y : goal.decreases-loop-y
+decreases-loop-y l = l.end - l.y

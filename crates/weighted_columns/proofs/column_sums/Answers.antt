@@ -1,6 +1,6 @@
 -- `weighted_columns::column_sums` meets its contract: tap by tap. Assumes nothing.
 use Prim.Native.Nat.{ℕ, ◌+◌, ◌*◌, ◌-◌, ◌≤◌}
-use native.Mathlib.Nat.{le_antisymm, le_trans, add_comm, mul-le-mul}
+use native.Mathlib.Nat.{le_antisymm, add_comm, mul-le-mul}
 use native.Mathlib.Omega.{arith}
 use mathlib.Core.Path.{◌≡◌, refl, ap, ◌∙◌}
 use mathlib.Core.List.{List, ◌++◌}
@@ -64,7 +64,7 @@ add_tap-requires c =
       rw weight (omega (arith, weight_size a.axis.weights L.k a.axis.len t, p.2.size)),
       λ u b. rw (filled_at _ a.w _ L.sums (pos 0) u L.invariant.1 b)
           (omega (arith, partial_size a.axis.offsets a.axis.weights (at_offset a.rows.now a.w a.first) (pos 2097152) 65536 (λ v o. p.4 _) L.k a.axis.len L.invariant.0 p.2.size u)),
-      λ u b. rw (shifted a.rows.now at u (pos 0)) (le_trans (p.4 (u + at)) (omega arith)),
+      λ u b. rw (shifted a.rows.now at u (pos 0)) (p.4 _),
     )
 
 pub loop-k-preserved : goal.loop-k-preserved

@@ -1,6 +1,6 @@
 -- `weighted_columns::column_sums` meets its contract: tap by tap. Assumes nothing.
 use Prim.Native.Nat.{ℕ, ◌+◌, ◌*◌, ◌-◌, ◌≤◌}
-use native.Mathlib.Nat.{le_antisymm, le_trans, add_comm, mul-le-mul}
+use native.Mathlib.Nat.{le_antisymm, add_comm, mul-le-mul}
 use native.Mathlib.Omega.{arith}
 use mathlib.Core.Path.{◌≡◌, refl, ap, ◌∙◌}
 use mathlib.Core.List.{List, ◌++◌}

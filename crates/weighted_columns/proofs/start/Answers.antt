@@ -1,11 +1,9 @@
--- `row_sums::start` meets its contract: what is stored so far, then what was there. Assumes nothing.
+-- `weighted_columns::start` meets its contract: what is stored so far, then what was there. Assumes nothing.
 use Prim.Native.Nat.{ℕ, ◌-◌}
 use mathlib.Core.Path.{refl}
-use mir.Syntax.{w32}
-use mir.Val.{to_z}
-use mir.Facts.{to_z-of_z}
+use lib.IntN.{pos}
 use Rattle.lists.proofs.Stored.{Stored, stored_none, stored_more, stored_done}
-use Rattle.row_sums.proofs.start.Goals as goal
+use Rattle.weighted_columns.proofs.start.Goals as goal
 
 pub loop-u-init : goal.loop-u-init
 loop-u-init c =
@@ -17,4 +15,4 @@ loop-u-preserved c =
 
 pub returns : goal.returns
 returns c =
-    rw (to_z-of_z c.ranges.value) at (stored_done c.loop-u.invariant c.loop-u-test.false)
+    stored_done c.loop-u.invariant c.loop-u-test.false

@@ -1,0 +1,12 @@
+-- `weighted_columns::start` meets its contract: what is stored so far, then what was there. Assumes nothing.
+use Prim.Native.Nat.{ℕ, ◌-◌}
+use mathlib.Core.Path.{refl}
+use lib.IntN.{pos}
+use Rattle.lists.proofs.Stored.{Stored, stored_none, stored_more, stored_done}
+use Rattle.weighted_columns.proofs.start.Given as goal
+
+abbrev pub invariant-loop-u : goal.invariant-loop-u
+invariant-loop-u l = Stored (λ (_ : ℕ). pos 2097152) l.n l.initial.sums l.sums l.u
+
+abbrev pub decreases-loop-u : goal.decreases-loop-u
+decreases-loop-u l = l.n - l.u
