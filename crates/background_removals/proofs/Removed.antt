@@ -14,7 +14,7 @@ use Rattle.refusals.specs.Refusal.{Test, tested}
 use Rattle.refusals.proofs.Passed.{passed}
 use Rattle.answers.specs.declared.Held.{Held}
 use Rattle.answers.specs.declared.Changed.TheVariants as Changed
-use Rattle.background.specs.Background.{Member, member, Background, stills, samples, numbers, position}
+use Rattle.background.specs.Background.{Member, member, Background, stills, numbers, position}
 use Rattle.background.specs.Room.{held_of}
 use Rattle.background.specs.Change.{refused, changed, remove_tests, without, removal}
 use Rattle.background.specs.Memory.{slot, member_in, background_in, Lies, Changes}
@@ -22,7 +22,6 @@ use Rattle.background_slots.specs.Slot.{with_raster, with_labels}
 use Rattle.background_slots.proofs.Holding.{slot_of, numbers_in}
 use Rattle.background_slots.proofs.HeldRoom.{Lent, held_lent}
 use Rattle.background_removals.specs.declared.Found.{Found}
-use Rattle.background_removals.specs.declared.Found.TheVariants as Found
 use Rattle.background_removals.proofs.Tests.{remove_tests_in}
 use Rattle.background_slots.proofs.Members.{member_here, member_elsewhere, drop_behind, raster-length, raster-same, slot-length, labels_length, labels_behind, labels_same}
 

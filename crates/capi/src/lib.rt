@@ -1,4 +1,4 @@
-// The calls for C and Rust. Each gives the refusal's number, or 0 and its numbers in a lent array.
+// The calls for C and Rust. Each gives the refusal's number, or 0 and its numbers in a lent array. `capi_c` exports them.
 #![tactic(auto)]
 
 ghost use Rattle.std.specs.Prelude.{length};
@@ -17,16 +17,14 @@ ghost use Rattle.told_verdict.specs.Call.{GivesVerdict};
 use filter_answers::Limits;
 
 // Read a still: width, height, channels, and at which byte the raster begins.
-#[unsafe(no_mangle)]
-pub extern "C" fn hejslopi_read_still(bytes: &[u8], res: &mut [u64; 4]) -> u32
+pub fn hejslopi_read_still(bytes: &[u8], res: &mut [u64; 4]) -> u32
     ensures { Tells (still_told (still_of bytes.now)) res.old res.new result }
 {
     told::still(still_reader::read_still(bytes), res)
 }
 
 // Write a still: its length.
-#[unsafe(no_mangle)]
-pub extern "C" fn hejslopi_write_still(
+pub fn hejslopi_write_still(
     width: usize,
     height: usize,
     channels: usize,
@@ -43,24 +41,21 @@ pub extern "C" fn hejslopi_write_still(
 }
 
 // Read a recipe: S and T.
-#[unsafe(no_mangle)]
-pub extern "C" fn hejslopi_read_recipe(bytes: &[u8], res: &mut [u64; 2]) -> u32
+pub fn hejslopi_read_recipe(bytes: &[u8], res: &mut [u64; 2]) -> u32
     ensures { Tells (recipe_told (recipe_of bytes.now)) res.old res.new result }
 {
     told::recipe(recipe::read_recipe(bytes), res)
 }
 
 // What must be lent to filter a still, from its header and a recipe: how many work bytes, row values and sums, the output's length, and T.
-#[unsafe(no_mangle)]
-pub extern "C" fn hejslopi_needs(recipe: &[u8], still: &[u8], res: &mut [u64; 5]) -> u32
+pub fn hejslopi_needs(recipe: &[u8], still: &[u8], res: &mut [u64; 5]) -> u32
     ensures { Tells (needs_told (needs_answer recipe.now still.now)) res.old res.new result }
 {
     told::needs(buffer_needs::needs(recipe, still), res)
 }
 
 // Filter a plane, with a single stage: T.
-#[unsafe(no_mangle)]
-pub extern "C" fn hejslopi_filter_plane(
+pub fn hejslopi_filter_plane(
     recipe: &[u8],
     width: usize,
     height: usize,
@@ -80,8 +75,7 @@ pub extern "C" fn hejslopi_filter_plane(
 }
 
 // Filter a file with limits on the stages and on the samples a plane: width, height, channels, T and the output's length.
-#[unsafe(no_mangle)]
-pub extern "C" fn hejslopi_filter_file_limited(
+pub fn hejslopi_filter_file_limited(
     recipe: &[u8],
     still: &[u8],
     stages: usize,
@@ -109,8 +103,7 @@ pub extern "C" fn hejslopi_filter_file_limited(
 }
 
 // Filter a file with the archive's limits: the same.
-#[unsafe(no_mangle)]
-pub extern "C" fn hejslopi_filter_file(
+pub fn hejslopi_filter_file(
     recipe: &[u8],
     still: &[u8],
     work: &mut [u8],
@@ -136,8 +129,7 @@ pub extern "C" fn hejslopi_filter_file(
 }
 
 // The movement between two stills: how many samples have moved, are still and are open, both T, and the length of each output.
-#[unsafe(no_mangle)]
-pub extern "C" fn hejslopi_movement(
+pub fn hejslopi_movement(
     recipe1: &[u8],
     still1: &[u8],
     recipe2: &[u8],
@@ -161,8 +153,7 @@ pub extern "C" fn hejslopi_movement(
 }
 
 // Judge a still that was filtered elsewhere: 1 where each of its samples is near enough to the exact result on the raw one, 0 where one is not.
-#[unsafe(no_mangle)]
-pub extern "C" fn hejslopi_verdict(
+pub fn hejslopi_verdict(
     recipe: &[u8],
     raw: &[u8],
     received: &[u8],
@@ -176,8 +167,7 @@ pub extern "C" fn hejslopi_verdict(
 }
 
 // Add a still to a background, with its number and its T: what is held is updated.
-#[unsafe(no_mangle)]
-pub extern "C" fn hejslopi_background_add(
+pub fn hejslopi_background_add(
     still: &[u8],
     number: u32,
     tolerance: u32,
@@ -191,8 +181,7 @@ pub extern "C" fn hejslopi_background_add(
 }
 
 // Remove the still of a number from a background: what is held is updated.
-#[unsafe(no_mangle)]
-pub extern "C" fn hejslopi_background_remove(
+pub fn hejslopi_background_remove(
     number: u32,
     rasters: &mut [u8],
     labels: &mut [u32],
@@ -204,8 +193,7 @@ pub extern "C" fn hejslopi_background_remove(
 }
 
 // The mean of a background: of how many stills, T and the output's length.
-#[unsafe(no_mangle)]
-pub extern "C" fn hejslopi_background_mean(
+pub fn hejslopi_background_mean(
     rasters: &[u8],
     labels: &[u32],
     held: &[u64; 4],

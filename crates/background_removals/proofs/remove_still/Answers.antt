@@ -2,7 +2,6 @@
 use Prim.Native.Nat.{ℕ, ◌+◌, ◌*◌, ◌-◌}
 use native.Mathlib.Omega.{arith}
 use mathlib.Core.Path.{◌≡◌, sym, ap, ◌∙◌}
-use lib.ListN.{length}
 use Rattle.background_removals.proofs.Removed.{removal-refused, finds, removed}
 use Rattle.background_removals.proofs.remove_still.Goals as goal
 

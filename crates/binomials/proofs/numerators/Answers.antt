@@ -1,12 +1,9 @@
 -- `binomials::numerators` meets its contract. Assumes nothing.
-use Prim.Native.Nat.{ℕ, ◌-◌, ◌+◌, ◌*◌, ◌^◌, ◌≤◌}
+use Prim.Native.Nat.{ℕ, ◌+◌, ◌*◌}
 use native.Mathlib.Omega.{arith}
-use mathlib.Core.Path.{◌≡◌, refl, sym, ap}
-use mathlib.Core.List.{◌++◌}
-use lib.ListN.{length, drop, length-set}
-use Rattle.lists.specs.Tabulate.{tabulate}
+use mathlib.Core.Path.{refl, sym, ap}
+use lib.ListN.{length-set}
 use Rattle.lists.proofs.Tabulate.{fill_none, fill_more, filled_front}
-use Rattle.model.specs.Binomial.{choose}
 use Rattle.binomials.proofs.numerators.Goals as goal
 
 pub loop-k-init : goal.loop-k-init

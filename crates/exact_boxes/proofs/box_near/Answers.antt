@@ -17,11 +17,8 @@ use Rattle.exact_boxes.proofs.ColumnLaws.{still_long}
 use Rattle.exact_boxes.proofs.RunLaws.{Columns}
 use Rattle.exact_boxes.proofs.RowLaws.{array_tail, columns_fit, row_sums}
 use borrow.Author.Rules.{rules}
+use Rattle.exact_boxes.proofs.box_near.Invariants.{at}
 use Rattle.exact_boxes.proofs.box_near.Goals as goal
-
--- the numerator at column u, row v
-abbrev at : Frame → ℕ → ℕ → List ℕ → ℕ → ℕ → ℤ
-at frame r s plane u v = numerator (box r s) (neighbours frame plane u v)
 
 -- a window has at most 961 samples
 windows : (r s : ℕ) → r ≤ 15 → s ≤ 15 → (2 * r + 1) * (2 * s + 1) ≤ 961

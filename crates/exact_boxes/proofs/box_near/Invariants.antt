@@ -18,6 +18,10 @@ use Rattle.exact_boxes.proofs.RunLaws.{Columns}
 use Rattle.exact_boxes.proofs.RowLaws.{array_tail, columns_fit, row_sums}
 use Rattle.exact_boxes.proofs.box_near.Given as goal
 
+-- the numerator at column u, row v
+abbrev pub at : Frame → ℕ → ℕ → List ℕ → ℕ → ℕ → ℤ
+at frame r s plane u v = numerator (box r s) (neighbours frame plane u v)
+
 abbrev pub invariant-loop-v : goal.invariant-loop-v
 invariant-loop-v l = (l.v ≤ l.h) × (8224 ≡ length l.row) × (8224 ≡ length l.sums) × (8192 ≡ length l.wide) × Columns l.frame l.plane l.s l.sums l.v
     × RowsNear l.c l.n l.w l.h l.channel l.received (at l.frame l.r l.s l.plane) l.v

@@ -13,11 +13,8 @@ use Rattle.near_rows.proofs.RowLaws.{RowsNear, no_rows, one-row-more, row-not-ne
 use Rattle.whole_taps.specs.declared.Taps.{Taps}
 use Rattle.whole_taps.specs.Whole.{kernel_is}
 use borrow.Author.Rules.{rules}
+use Rattle.exact_weights.proofs.ratios_near.Invariants.{at}
 use Rattle.exact_weights.proofs.ratios_near.Goals as goal
-
--- the numerator at column u, row v
-abbrev at : Frame → Taps → Taps → List ℕ → ℕ → ℕ → ℤ
-at frame across down plane u v = numerator (weighted (kernel_is across) (kernel_is down)) (neighbours frame plane u v)
 
 pub denominator-n-requires : goal.denominator-n-requires
 denominator-n-requires c =

@@ -14,6 +14,10 @@ use Rattle.whole_taps.specs.declared.Taps.{Taps}
 use Rattle.whole_taps.specs.Whole.{kernel_is}
 use Rattle.exact_weights.proofs.ratios_near.Given as goal
 
+-- the numerator at column u, row v
+abbrev pub at : Frame → Taps → Taps → List ℕ → ℕ → ℕ → ℤ
+at frame across down plane u v = numerator (weighted (kernel_is across) (kernel_is down)) (neighbours frame plane u v)
+
 abbrev pub invariant-loop-v : goal.invariant-loop-v
 invariant-loop-v l = (l.v ≤ l.h) × RowsNear l.c l.n l.w l.h l.channel l.received (at l.frame l.across l.down l.plane) l.v × (8224 ≡ length l.row) × (8224 ≡ length l.sums) × (8192 ≡ length l.wide)
 

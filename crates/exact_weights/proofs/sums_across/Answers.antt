@@ -16,11 +16,8 @@ use Rattle.tap_sums.proofs.SumLaws.{weight_size}
 use Rattle.tap_sums.proofs.PartialSums.{partial, partial_more, partial_size, shifted}
 use Rattle.exact_weights.proofs.Sums.{all_taps, size_small}
 use borrow.Author.Rules.{rules}
+use Rattle.exact_weights.proofs.sums_across.Invariants.{at_offset}
 use Rattle.exact_weights.proofs.sums_across.Goals as goal
-
--- what stands at held offset o from column u
-abbrev at_offset : List ℤ → ℕ → ℕ → ℤ
-at_offset sums u o = get_or sums (u + o) (pos 0)
 
 pub loop-k-init : goal.loop-k-init
 unfolding partial held_sum

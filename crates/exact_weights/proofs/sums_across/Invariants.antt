@@ -17,6 +17,10 @@ use Rattle.tap_sums.proofs.PartialSums.{partial, partial_more, partial_size, shi
 use Rattle.exact_weights.proofs.Sums.{all_taps, size_small}
 use Rattle.exact_weights.proofs.sums_across.Given as goal
 
+-- what stands at held offset o from column u
+abbrev pub at_offset : List ℤ → ℕ → ℕ → ℤ
+at_offset sums u o = get_or sums (u + o) (pos 0)
+
 abbrev pub invariant-loop-k : goal.invariant-loop-k
 invariant-loop-k l = (l.k ≤ l.len) × (l.wide ≡ tabulate (partial l.offsets l.weights (at_offset l.sums) (pos 0) l.k) l.w ++ drop l.w l.initial.wide) × (length l.wide ≡ length l.initial.wide)
 

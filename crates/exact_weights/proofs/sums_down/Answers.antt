@@ -18,11 +18,8 @@ use Rattle.tap_sums.proofs.SumLaws.{weight_size}
 use Rattle.tap_sums.proofs.PartialSums.{partial, partial_more, partial_size}
 use Rattle.exact_weights.proofs.Sums.{all_taps, size_small}
 use borrow.Author.Rules.{rules}
+use Rattle.exact_weights.proofs.sums_down.Invariants.{reached}
 use Rattle.exact_weights.proofs.sums_down.Goals as goal
-
--- the sample at place x of the row that held offset o reaches from row v
-abbrev reached : Frame → List ℕ → ℕ → ℕ → ℕ → ℤ
-reached frame plane v x o = pos (padded frame plane x (v + o))
 
 pub start-requires : goal.start-requires
 start-requires c =

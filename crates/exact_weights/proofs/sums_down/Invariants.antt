@@ -19,6 +19,10 @@ use Rattle.tap_sums.proofs.PartialSums.{partial, partial_more, partial_size}
 use Rattle.exact_weights.proofs.Sums.{all_taps, size_small}
 use Rattle.exact_weights.proofs.sums_down.Given as goal
 
+-- the sample at place x of the row that held offset o reaches from row v
+abbrev pub reached : Frame → List ℕ → ℕ → ℕ → ℕ → ℤ
+reached frame plane v x o = pos (padded frame plane x (v + o))
+
 abbrev pub invariant-loop-k : goal.invariant-loop-k
 invariant-loop-k l = (l.k ≤ l.len) × (l.sums ≡ tabulate (partial l.offsets l.weights (reached l.frame l.plane l.v) (pos 0) l.k) l.n ++ drop l.n l.initial.sums) × (length l.sums ≡ length l.initial.sums) × (length l.row ≡ length l.initial.row)
 

@@ -1,7 +1,5 @@
 -- `junk::fill_rows` is safe and ends. Assumes nothing.
-use Prim.Native.Nat.{◌-◌}
-use mathlib.Core.Path.{◌≡◌}
-use lib.ListN.{length, length-set}
+use lib.ListN.{length-set}
 use Rattle.junk.proofs.fill_rows.Goals as goal
 
 pub loop-i-preserved : goal.loop-i-preserved

@@ -1,16 +1,12 @@
 -- `kernels::shares` meets its contract: what is stored at i is the model's weight of tap i. Assumes nothing.
-use Prim.Native.Nat.{ℕ, ◌-◌, ◌+◌, ◌≤◌}
+use Prim.Native.Nat.{ℕ}
 use native.Mathlib.Omega.{arith}
 use mathlib.Core.Path.{◌≡◌, refl, sym, ap, ◌∙◌}
 use mathlib.Core.Bool.{Bool, cond}
-use mathlib.Core.List.{◌++◌}
-use lib.ListN.{length, drop, length-set}
+use lib.ListN.{length-set}
 use mir.Syntax.{w32}
 use mir.Val.{to_z, of_z}
-use Rattle.lists.specs.Tabulate.{tabulate}
 use Rattle.lists.proofs.Tabulate.{fill_none, fill_more, filled_front}
-use Rattle.model.specs.Apportion.{share}
-use Rattle.kernels.specs.Kernel.{tap_of, kernel_of}
 use Rattle.kernels.proofs.Units.{one_within, rounded-is, rest_small, unit_is, weight_is, shares_are}
 use borrow.Author.Rules.{rules}
 use Rattle.kernels.proofs.shares.Goals as goal

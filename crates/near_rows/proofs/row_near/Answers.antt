@@ -1,8 +1,7 @@
 -- `near_rows::row_near` meets its contract: the row's samples of the channel stand `channels` apart. Assumes nothing.
-use Prim.Native.Nat.{ℕ, ◌+◌, ◌*◌, ◌≤◌}
+use Prim.Native.Nat.{◌*◌, ◌≤◌}
 use native.Mathlib.Nat.{mul-le-mul}
 use native.Mathlib.Omega.{arith}
-use mathlib.Core.Path.{◌≡◌}
 use Rattle.near_rows.proofs.row_near.Goals as goal
 
 pub overflow_mul-at : goal.overflow_mul-at

@@ -12,11 +12,8 @@ use Rattle.channels.specs.Channel.{channel, placed}
 use Rattle.channels.proofs.Interleaved.{placed-none, placed-more, placed-all, channel-length}
 use Rattle.raster_filter.specs.FilteredRaster.{filtered_raster}
 use Rattle.stages.proofs.Through.{front_is, front_through}
+use Rattle.raster_filter.proofs.filter_raster.Invariants.{planes}
 use Rattle.raster_filter.proofs.filter_raster.Goals as goal
-
--- the filtered planes
-abbrev planes : List ℕ → ℕ → ℕ → ℕ → ℕ → List ℕ → ℕ → List ℕ
-planes recipe w h channels n raster k = written w h (recipe_stages recipe) (channel channels n raster k)
 
 pub overflow_mul-n : goal.overflow_mul-n
 overflow_mul-n c =

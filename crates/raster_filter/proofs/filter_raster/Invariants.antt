@@ -14,6 +14,10 @@ use Rattle.raster_filter.specs.FilteredRaster.{filtered_raster}
 use Rattle.stages.proofs.Through.{front_is, front_through}
 use Rattle.raster_filter.proofs.filter_raster.Given as goal
 
+-- the filtered planes
+abbrev pub planes : List ℕ → ℕ → ℕ → ℕ → ℕ → List ℕ → ℕ → List ℕ
+planes recipe w h channels n raster k = written w h (recipe_stages recipe) (channel channels n raster k)
+
 abbrev pub invariant-loop-c : goal.invariant-loop-c
 invariant-loop-c l = (l.c ≤ l.channels) × (length l.work ≡ length l.initial.work) × (length l.rows ≡ length l.initial.rows) × (length l.sums ≡ length l.initial.sums) × (length l.out ≡ length l.initial.out)
     × ((k : ℕ) → get_or l.out k 0 ≡ placed l.channels l.n (planes l.recipe l.w l.h l.channels l.n l.raster) l.initial.out l.c k)

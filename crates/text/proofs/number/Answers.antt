@@ -1,10 +1,8 @@
 -- `text::number` meets its contract: the number so far, cut, with the digits that are left has the value of the whole, cut. Assumes nothing.
-use Prim.Native.Nat.{◌+◌, ◌-◌, ◌≤◌, min}
 use native.Mathlib.Omega.{arith}
-use mathlib.Core.Path.{◌≡◌, refl, ◌∙◌}
-use lib.ListN.{length, drop}
+use mathlib.Core.Path.{refl, ◌∙◌}
 use borrow.Author.Tests.{le-leb, lt-leb}
-use Rattle.text.specs.Text.{is_digit, digits, value_from}
+use Rattle.text.specs.Text.{is_digit}
 use Rattle.text.proofs.TextLaws.{digits_more, digits_stop, digits_end, digits_done}
 use Rattle.text.proofs.number.Goals as goal
 

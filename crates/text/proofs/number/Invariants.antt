@@ -1,11 +1,8 @@
 -- `text::number` meets its contract: the number so far, cut, with the digits that are left has the value of the whole, cut. Assumes nothing.
 use Prim.Native.Nat.{◌+◌, ◌-◌, ◌≤◌, min}
-use native.Mathlib.Omega.{arith}
-use mathlib.Core.Path.{◌≡◌, refl, ◌∙◌}
+use mathlib.Core.Path.{◌≡◌}
 use lib.ListN.{length, drop}
-use borrow.Author.Tests.{le-leb, lt-leb}
-use Rattle.text.specs.Text.{is_digit, digits, value_from}
-use Rattle.text.proofs.TextLaws.{digits_more, digits_stop, digits_end, digits_done}
+use Rattle.text.specs.Text.{digits, value_from}
 use Rattle.text.proofs.number.Given as goal
 
 abbrev pub invariant-loop-i : goal.invariant-loop-i

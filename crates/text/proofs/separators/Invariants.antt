@@ -1,11 +1,9 @@
 -- `text::separators` meets its contract: what is counted so far and what the rest counts make the whole. Assumes nothing.
 use Prim.Native.Nat.{◌+◌, ◌-◌, ◌≤◌}
-use native.Mathlib.Omega.{arith}
-use mathlib.Core.Path.{◌≡◌, sym, ◌∙◌}
+use mathlib.Core.Path.{◌≡◌}
 use mathlib.Core.Bool.{false}
 use lib.ListN.{length, drop}
 use Rattle.text.specs.Text.{gap}
-use Rattle.text.proofs.TextLaws.{gap_step, gap_end}
 use Rattle.text.proofs.separators.Given as goal
 
 abbrev pub invariant-loop-i : goal.invariant-loop-i

@@ -15,11 +15,8 @@ use Rattle.tap_sums.specs.HeldSums.{held_sum}
 use Rattle.tap_sums.proofs.SumLaws.{weight_size}
 use Rattle.tap_sums.proofs.PartialSums.{partial, partial_more, partial_size, shifted}
 use borrow.Author.Rules.{rules}
+use Rattle.weighted_columns.proofs.column_sums.Invariants.{at_offset}
 use Rattle.weighted_columns.proofs.column_sums.Goals as goal
-
--- what stands at held offset o from column u
-abbrev at_offset : List ℤ → ℕ → ℕ → ℕ → ℕ → ℤ
-at_offset rows w first u o = get_or rows ((o - first) * w + u) (pos 0)
 
 -- no place of a row is a large number
 small-place : (o first w : ℕ) → o ≤ 30 → w ≤ 8192 → (o - first) * w ≤ 245760

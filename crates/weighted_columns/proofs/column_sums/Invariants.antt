@@ -16,6 +16,10 @@ use Rattle.tap_sums.proofs.SumLaws.{weight_size}
 use Rattle.tap_sums.proofs.PartialSums.{partial, partial_more, partial_size, shifted}
 use Rattle.weighted_columns.proofs.column_sums.Given as goal
 
+-- what stands at held offset o from column u
+abbrev pub at_offset : List ℤ → ℕ → ℕ → ℕ → ℕ → ℤ
+at_offset rows w first u o = get_or rows ((o - first) * w + u) (pos 0)
+
 abbrev pub invariant-loop-k : goal.invariant-loop-k
 invariant-loop-k l = (l.k ≤ l.len) × (l.sums ≡ tabulate (partial l.offsets l.weights (at_offset l.rows l.w l.first) (pos 2097152) l.k) l.w ++ drop l.w l.initial.sums) × (length l.sums ≡ length l.initial.sums)
 

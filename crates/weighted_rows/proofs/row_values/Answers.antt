@@ -15,11 +15,8 @@ use Rattle.tap_sums.specs.HeldSums.{held_sum, row_of}
 use Rattle.tap_sums.proofs.SumLaws.{weight_size}
 use Rattle.tap_sums.proofs.PartialSums.{partial, partial_more, partial_size, shifted}
 use borrow.Author.Rules.{rules}
+use Rattle.weighted_rows.proofs.row_values.Invariants.{at_offset}
 use Rattle.weighted_rows.proofs.row_values.Goals as goal
-
--- what stands at held offset o from column u
-abbrev at_offset : List ℕ → ℕ → ℕ → ℤ
-at_offset row u o = pos (get_or row (u + o) 0)
 
 pub loop-k-init : goal.loop-k-init
 unfolding partial held_sum

@@ -16,6 +16,10 @@ use Rattle.tap_sums.proofs.SumLaws.{weight_size}
 use Rattle.tap_sums.proofs.PartialSums.{partial, partial_more, partial_size, shifted}
 use Rattle.weighted_rows.proofs.row_values.Given as goal
 
+-- what stands at held offset o from column u
+abbrev pub at_offset : List ℕ → ℕ → ℕ → ℤ
+at_offset row u o = pos (get_or row (u + o) 0)
+
 abbrev pub invariant-loop-k : goal.invariant-loop-k
 invariant-loop-k l = (l.k ≤ l.len) × (l.sums ≡ tabulate (partial l.offsets l.weights (at_offset l.row) (pos 512) l.k) l.n ++ drop l.n l.initial.sums) × (length l.sums ≡ length l.initial.sums)
 

@@ -1,7 +1,6 @@
 -- `words::after` meets its contract: no more blanks than bytes. Assumes nothing.
 use Prim.Native.Nat.{◌≤◌, ◌-◌}
 use lib.ListN.{length}
-use mathlib.Core.Logic.{⊎_elim}
 use Rattle.words.proofs.after.Given as goal
 
 abbrev pub invariant-loop-i : goal.invariant-loop-i

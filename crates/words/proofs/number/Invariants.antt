@@ -1,6 +1,5 @@
 -- `words::number` is safe and ends. Assumes nothing.
 use Prim.Native.Nat.{◌≤◌, ◌-◌}
-use mathlib.Core.Logic.{⊎_elim}
 use lib.ListN.{length}
 use Rattle.words.proofs.number.Given as goal
 

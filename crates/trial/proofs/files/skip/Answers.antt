@@ -5,5 +5,5 @@ use borrow.Author.Rules.{rules}
 use Rattle.trial.proofs.files.skip.Goals as goal
 
 pub slice_bounds-read_full-end-2 : goal.slice_bounds-read_full-end-2
-slice_bounds-read_full-end-2 c =
+slice_bounds-read_full-end-2 g c =
     sym (length-take-le _ _ (search rules))
