@@ -14,36 +14,62 @@ PROVING = "filter: proving the program, some minutes the first time: %d of %d cr
 AS_BUILT = "filter: crates/ is newer than the program, and there is no rt to prove it again: this is the program as it was built\n"
 NO_RT = "rt (the Rattle toolchain) is needed to build the program, and is not to be found"
 
-# What stands in for rt writes down each run, tells of crates, and waits until ./filter has looked some times: what stands in for sleep counts them.
+# What stands in for rt, beneath tools/build, writes down each run, tells of crates as rt does, and waits until ./filter has looked some times: what stands in
+# for sleep counts them. Of a crate that has not changed rt says nothing.
 SLEEP = 'echo >>"$LOOKS"\nexec "$SLEEP" 0.1\n'
-RT = """echo "$*" >>"$RUNS"
-proved() { printf "rt: crate_%s proved ($2)\\n" $(seq "$1"); }
+RT = """echo "${PWD##*/} $*" >>"$RUNS"
+place=0
+passes() { place=$((place + $1)); }
+proves() {
+    for crate in $(echo "$ORDER" | cut -d ' ' -f "$((place + 1))-$((place + $1))"); do
+        printf 'rt: chose --jobs 2 for %s\\nfn %s::made: proved\\ncrate %s: modules loaded=8 checked=4\\nlogic=proved functions=1 sum=dac8\\n' "$crate" "$crate" "$crate"
+    done >"$RUNS.said"
+    cat "$RUNS.said"
+    passes "$1"
+}
 looks() { wc -l <"$LOOKS"; }
 pause() { until=$(($(looks) + $1)); until [ "$(looks)" -ge "$until" ]; do "$SLEEP" 0.02; done; }
 """
-UNCHANGED = RT + 'proved "$TOTAL" "unchanged since it was last proved"\n'
+UNCHANGED = RT + "echo 'rt: nothing has changed since the last proved build, by out/hejslopi.stamp, so nothing is checked now'\n"
 # How many crates are proved at each step, up to all.
 STEPS = (11, 13, 23)
-BY_AND_BY = RT + """proved 9 'unchanged since it was last proved'
-proved 2 '1 s'; pause 3; proved 2 '0 s'; pause 3; proved 10 '1 s'; pause 3; proved $((TOTAL - 23)) '2 s'; pause 3
-echo "rt: ok, $TOTAL crates proved"; mkdir -p target/bin; cp -- "$PROGRAM" target/bin
+BY_AND_BY = RT + """passes 9
+proves 2; pause 3; proves 2; pause 3; proves 10; pause 3; proves $((TOTAL - 23)); pause 3
+mkdir -p out; cp -- "$PROGRAM" out; echo 'no 22'
 """
-LONG_AT_ONE = RT + "proved 5 'unchanged since it was last proved'; pause 25; exit 1\n"
-REFUSED = RT + "proved 2 '1 s'; echo 'rt: b NOT PROVED (exit 1, 0 s)'; echo 'rt: c NOT PROVED: its dependency b'; echo 'rt: FAILED: b c'; exit 1\n"
+LONG_AT_ONE = RT + "passes 5; echo 'rt: chose --jobs 2 for' $(echo \"$ORDER\" | cut -d ' ' -f 6); pause 25; exit 1\n"
+# How rt tells of a proof that fails, of a function without one, and of what cannot be read.
+REFUSED = RT + """cat <<'END'
+rt: chose --jobs 2 for b
+warning: a line of no account
+./proofs/wide/Answers.antt:8:13: error: `returns`: expected another type
+fn b::wide: not proved
+crate b: modules loaded=0 checked=4
+logic=not-proved
+rattle build: nothing was built, since only a proved crate is built
+rt: the library b did not build, so nothing above it was checked
+END
+exit 1
+"""
+NO_PROOF = RT + "echo 'rt: chose --jobs 2 for b'; echo 'fn b::wide: no proof'; echo logic=not-proved; echo 'rt: the library b did not build'; exit 1\n"
+UNREAD = RT + "echo 'src/main.rt:13:1: error[unexpected-token]: expected expression'; echo 'rt: mend these first: no library was built'; exit 1\n"
 ENDLESS = RT + 'echo $$ >"$REACHED"\nexec "$SLEEP" 60\n'
 
 
 def resting_on(name):
-    """A crate and all that it rests on, by crates.txt."""
+    """All that a crate rests on, each behind what it rests on, and itself last: in this order rt proves them."""
     with open("crates.txt", encoding="utf-8") as file:
         rests = dict(line.split(":") for line in file if ":" in line and not line.startswith("#"))
-    reached, todo = set(), [name]
-    while todo:
-        crate = todo.pop()
-        if crate in rests and crate not in reached:
-            reached.add(crate)
-            todo += rests[crate].split()
-    return reached
+    order = []
+
+    def visit(crate):
+        if crate in rests and crate not in order:
+            for below in rests[crate].split():
+                visit(below)
+            order.append(crate)
+
+    visit(name)
+    return order
 
 
 # ---- the state of the copy
@@ -51,13 +77,14 @@ def resting_on(name):
 
 def with_rt(calls, text):
     """From now on this stands in for rt. It has not been run yet. How many crates there are."""
-    total = len(resting_on("hejslopi"))
+    order = resting_on("hejslopi")
     calls.stands_in("rt", text)
     calls.stands_in("sleep", SLEEP)
-    calls.changed.update(RUNS=calls.at("runs"), LOOKS=calls.at("looks"), TOTAL=str(total), PROGRAM=os.path.abspath(BUILT), SLEEP=shutil.which("sleep"))
+    calls.changed.update(RUNS=calls.at("runs"), LOOKS=calls.at("looks"), ORDER=" ".join(order), TOTAL=str(len(order)), PROGRAM=os.path.abspath(BUILT),
+                         SLEEP=shutil.which("sleep"))
     for name in ("runs", "looks"):
         open(calls.at(name), "w").close()
-    return total
+    return len(order)
 
 
 def without_rt(calls):
@@ -80,7 +107,7 @@ def set_older(calls):
 
 def ran(calls, where, times):
     """One test: how often rt was run, each time for the program."""
-    calls.holds("%s: runs of rt" % where, "runs", b"check hejslopi\n" * times)
+    calls.holds("%s: runs of rt" % where, "runs", b"hejslopi run\n" * times)
 
 
 def log_of(calls):
@@ -104,10 +131,10 @@ def as_built(calls):
 
 
 def unchanged(calls):
-    """Sources that are newer and no other: rt is asked once, and nothing is said. A file that is gone counts too."""
+    """Sources that are newer and no other: rt is asked once, and nothing is said. A file that is gone counts too, and what rt leaves does not."""
     for where, change in (("a newer source", lambda: os.utime(calls.source)), ("a source less", lambda: os.remove(calls.source))):
         with_rt(calls, UNCHANGED)
-        for path in (calls.source, os.path.dirname(calls.source), os.path.join(calls.top, "crates"), os.path.join(calls.top, "crates.txt")):
+        for path in (calls.source, os.path.dirname(calls.source), os.path.join(calls.top, "crates.txt")):
             os.utime(path, (0, 0))
         set_older(calls)
         calls.accepts("before %s" % where)
@@ -118,16 +145,15 @@ def unchanged(calls):
         ran(calls, where, 1)
 
 
-def half_built(calls):
-    """A program that rt has begun and not seen through lacks rt's mark."""
-    marks = os.path.join(calls.top, "target", "stamp")
-    os.mkdir(marks)
+def no_program(calls):
+    """A file that is no program does not count as built."""
+    os.chmod(calls.built, 0o644)
     with_rt(calls, "echo >>\"$RUNS\"; exit 1\n")
-    calls.equal("a program without its mark", (calls.ends(UNMADE)[:2], folders.lies_at(calls.at("runs")).bytes), ((2, ""), b"\n"))
+    calls.equal("no program", (calls.ends(UNMADE)[:2], folders.lies_at(calls.at("runs")).bytes), ((2, ""), b"\n"))
     without_rt(calls)
-    calls.stops("a program without its mark, no rt", UNMADE, NO_RT)
-    open(os.path.join(marks, "hejslopi"), "w").close()
-    calls.accepts("a program with its mark")
+    calls.stops("no program, no rt", UNMADE, NO_RT)
+    os.chmod(calls.built, 0o755)
+    calls.accepts("a program again")
 
 
 def broken_program(calls):
@@ -143,11 +169,12 @@ def broken_program(calls):
 
 def proving(calls):
     """From nothing: what is done of what, a line for about every ten crates. The log has all that rt says."""
-    shutil.rmtree(os.path.join(calls.top, "target"))
+    for folder in (os.path.join(calls.top, "target"), os.path.dirname(calls.out)):
+        shutil.rmtree(folder)
     total = with_rt(calls, BY_AND_BY)
     calls.says("from nothing", EXAMPLE, 0, program.LINE + "\n", "".join(PROVING % (count, total) + "\n" for count in (11, 23, total)))
     calls.holds("from nothing", "out", program.OUT)
-    calls.equal("lines of the log", len(folders.bytes_of(log_of(calls)).splitlines()), total + 1)
+    calls.equal("lines of the log", len(folders.bytes_of(log_of(calls)).splitlines()), 4 * (total - 9) + 1)
     calls.accepts("once it is proved")
     ran(calls, "from nothing", 1)
 
@@ -169,16 +196,23 @@ def on_terminal(calls):
 
 
 def not_proved(calls):
-    """A proof that fails: one line with the failure and the place of the log. There is no OUT."""
-    faulty, silent = RT + "echo wrong >&2; exit 2\n", RT + "exit 3\n"
-    for text, failure in ((REFUSED, "rt: b NOT PROVED (exit 1, 0 s)"), (faulty, "wrong"), (silent, "rt has said nothing")):
+    """A proof that fails: one line with the failure and the place of the log. There is no OUT, and the old program stays."""
+    for text, failure in (
+        (REFUSED, "crates/b/proofs/wide/Answers.antt:8:13: error: `returns`: expected another type"),
+        (NO_PROOF, "fn b::wide: no proof"),
+        (UNREAD, "crates/hejslopi/src/main.rt:13:1: error[unexpected-token]: expected expression"),
+        (RT + "echo wrong >&2; exit 2\n", "wrong"),
+        (RT + "exit 3\n", "rt has said nothing"),
+    ):
         set_older(calls)
         with_rt(calls, text)
-        calls.stops(failure, UNMADE, "the program is not proved: %s (the whole is in %s)" % (failure, log_of(calls)))
+        calls.stops(failure, UNMADE, "the program is not built: %s (the whole is in %s)" % (failure, log_of(calls)))
         ran(calls, failure, 1)
+    without_rt(calls)
+    calls.says("the old program", EXAMPLE, 0, program.LINE + "\n", AS_BUILT)
     os.remove(calls.built)
-    with_rt(calls, RT)
-    calls.stops("no program though rt ended well", UNMADE, "rt has ended well, and there is no %s" % calls.built)
+    with_rt(calls, RT + "chmod a-x out/hejslopi\n")
+    calls.stops("no program though rt ended well", UNMADE, "tools/build has ended well, and there is no %s" % calls.built)
     calls.holds("not proved", "unmade", None)
 
 
@@ -242,4 +276,4 @@ def at_once(calls):
     ran(calls, "two calls at once", 1)
 
 
-PARTS = (as_built, unchanged, half_built, broken_program, proving, on_terminal, not_proved, long_at_one, no_log, ended_while_proving, at_once)
+PARTS = (as_built, unchanged, no_program, broken_program, proving, on_terminal, not_proved, long_at_one, no_log, ended_while_proving, at_once)

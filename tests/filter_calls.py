@@ -12,6 +12,7 @@ from scripts import written
 EXAMPLE = ("-still", "a recipe", "out")
 UNMADE = ("-still", "a recipe", "unmade")
 BUILT = os.path.join("target", "bin", "hejslopi")
+BUILD = os.path.join("tools", "build")
 
 
 def word(number):
@@ -42,21 +43,24 @@ class Filter:
     def __init__(self, tally, room, shell):
         self.tally, self.room, self.shell = tally, room, shell
         self.scratch, self.top = self.at("scratch"), self.at("a repository")
-        self.command, self.built, self.source = (os.path.join(self.top, name) for name in ("filter", BUILT, os.path.join("crates", "hejslopi", "main.rt")))
+        self.crate = os.path.join(self.top, "crates", "hejslopi")
+        self.command, self.built = (os.path.join(self.top, name) for name in ("filter", BUILT))
+        self.source, self.out = (os.path.join(self.crate, *names) for names in (("src", "main.rt"), ("out", "hejslopi")))
         self.changed = {"TMPDIR": self.scratch}
         self.meanings = meanings()
-        for folder in (self.scratch, os.path.dirname(self.source), os.path.dirname(self.built)):
+        for folder in [self.scratch] + [os.path.dirname(path) for path in (self.source, self.out, self.built, os.path.join(self.top, BUILD))]:
             os.makedirs(folder)
         os.chmod(self.scratch, 0o777)
         self.lay()
 
     def lay(self):
-        """What the script looks at. The program comes last, so no source is newer."""
+        """What the script looks at and runs. The program comes last, so no source is newer; what rt leaves of it is as new, and no source."""
         written(self.source, b"fn main() {}\n")
         written(self.at("-still"), program.STILL)
         written(self.at("a recipe"), program.RECIPE)
-        for name in ("filter", "crates.txt", BUILT):
+        for name in ("filter", BUILD, "crates.txt", BUILT):
             shutil.copy(name, os.path.join(self.top, name))
+        shutil.copy(BUILT, self.out)
 
     def at(self, name):
         return os.path.join(self.room, name)

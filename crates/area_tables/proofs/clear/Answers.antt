@@ -1,7 +1,7 @@
 -- `area_tables::clear` meets its contract: what is stored so far, then what was there. Assumes nothing.
-use Prim.Native.Nat.{ℕ, ◌-◌}
+use Prim.Native.Nat.{◌-◌}
 use mathlib.Core.Path.{refl}
-use Rattle.lists.proofs.Stored.{Stored, stored_none, stored_more, stored_done}
+use Rattle.lists.proofs.Stored.{stored_none, stored_more, stored_done}
 use Rattle.area_tables.proofs.clear.Goals as goal
 
 pub loop-i-init : goal.loop-i-init

@@ -1,7 +1,6 @@
 -- `area_tables::clear` meets its contract: what is stored so far, then what was there. Assumes nothing.
 use Prim.Native.Nat.{ℕ, ◌-◌}
-use mathlib.Core.Path.{refl}
-use Rattle.lists.proofs.Stored.{Stored, stored_none, stored_more, stored_done}
+use Rattle.lists.proofs.Stored.{Stored}
 use Rattle.area_tables.proofs.clear.Given as goal
 
 abbrev pub invariant-loop-i : goal.invariant-loop-i

@@ -1,11 +1,8 @@
 -- `area_tables::first_rows` meets its contract: rows 0 to k are held. Assumes nothing.
-use Prim.Native.Nat.{◌*◌, ◌-◌, ◌≤◌}
+use Prim.Native.Nat.{◌-◌}
 use native.Mathlib.Nat.{le_antisymm}
 use native.Mathlib.Omega.{arith}
-use mathlib.Core.Path.{◌≡◌, refl, sym}
-use lib.ListN.{length}
-use Rattle.table_sizes.specs.Ring.{row_start}
-use Rattle.area_tables.specs.HeldTable.{HeldTable}
+use mathlib.Core.Path.{refl, sym}
 use Rattle.area_tables.proofs.Held.{first_place, place_fits, held_first}
 use borrow.Author.Rules.{rules}
 use Rattle.area_tables.proofs.first_rows.Goals as goal

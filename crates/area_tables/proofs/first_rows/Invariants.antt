@@ -1,12 +1,9 @@
 -- `area_tables::first_rows` meets its contract: rows 0 to k are held. Assumes nothing.
 use Prim.Native.Nat.{◌*◌, ◌-◌, ◌≤◌}
-use native.Mathlib.Nat.{le_antisymm}
-use native.Mathlib.Omega.{arith}
-use mathlib.Core.Path.{◌≡◌, refl, sym}
+use mathlib.Core.Path.{◌≡◌}
 use lib.ListN.{length}
 use Rattle.table_sizes.specs.Ring.{row_start}
 use Rattle.area_tables.specs.HeldTable.{HeldTable}
-use Rattle.area_tables.proofs.Held.{first_place, place_fits, held_first}
 use Rattle.area_tables.proofs.first_rows.Given as goal
 
 abbrev pub invariant-loop-k : goal.invariant-loop-k

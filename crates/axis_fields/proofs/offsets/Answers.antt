@@ -1,10 +1,8 @@
 -- `axis_fields::offsets` meets its contract: the verdict on the whole is that on what is left. Assumes nothing.
-use Prim.Native.Nat.{◌-◌, ◌≤◌}
+use Prim.Native.Nat.{◌-◌}
 use native.Mathlib.Omega.{arith}
-use mathlib.Core.Path.{◌≡◌, sym, ◌∙◌}
-use Rattle.refusals.specs.Refusal.{verdict}
-use Rattle.axis_fields.specs.AxisFields.{axis_tests}
-use Rattle.axis_fields.proofs.OffsetLaws.{left, axis_start, offset_end, offset-cut, offset_good, offset-low, offset_high}
+use mathlib.Core.Path.{sym, ◌∙◌}
+use Rattle.axis_fields.proofs.OffsetLaws.{axis_start, offset_end, offset-cut, offset_good, offset-low, offset_high}
 use Rattle.axis_fields.proofs.offsets.Goals as goal
 
 pub loop-i-init : goal.loop-i-init

@@ -1,10 +1,9 @@
 -- `axis_fields::offsets` meets its contract: the verdict on the whole is that on what is left. Assumes nothing.
 use Prim.Native.Nat.{◌-◌, ◌≤◌}
-use native.Mathlib.Omega.{arith}
-use mathlib.Core.Path.{◌≡◌, sym, ◌∙◌}
+use mathlib.Core.Path.{◌≡◌}
 use Rattle.refusals.specs.Refusal.{verdict}
 use Rattle.axis_fields.specs.AxisFields.{axis_tests}
-use Rattle.axis_fields.proofs.OffsetLaws.{left, axis_start, offset_end, offset-cut, offset_good, offset-low, offset_high}
+use Rattle.axis_fields.proofs.OffsetLaws.{left}
 use Rattle.axis_fields.proofs.offsets.Given as goal
 
 abbrev pub invariant-loop-i : goal.invariant-loop-i

@@ -1,14 +1,9 @@
 -- `axis_fields::reals` meets its contract: the verdict on the whole is that on what is left. Assumes nothing.
 use Prim.Native.Nat.{◌-◌, ◌*◌, ◌≤◌}
-use native.Mathlib.Omega.{arith}
-use mathlib.Core.Path.{◌≡◌, sym, ap, ◌∙◌}
-use mathlib.Core.Bool.{true, false}
+use mathlib.Core.Path.{◌≡◌}
 use lib.ListN.{drop}
-use Rattle.weights.specs.Bits.{accepted}
 use Rattle.refusals.specs.Refusal.{verdict}
-use Rattle.recipe_bytes.specs.Bytes.{bits}
 use Rattle.axis_fields.specs.AxisFields.{real_tests}
-use Rattle.axis_fields.proofs.RealLaws.{real_start, real_end, real_cut, real_good, real_bad}
 use Rattle.axis_fields.proofs.reals.Given as goal
 
 abbrev pub invariant-loop-i : goal.invariant-loop-i

@@ -1,8 +1,6 @@
 -- `background_additions::add_picture` meets its contract, by the verdict of the tests. Assumes nothing.
-use Prim.Native.Nat.{◌*◌, ◌+◌, ◌≤◌}
 use native.Mathlib.Omega.{arith}
 use mathlib.Core.Path.{sym, ◌∙◌}
-use lib.ListN.{length}
 use Rattle.background_additions.proofs.Tests.{refuses}
 use Rattle.background_additions.proofs.Added.{accepted, added}
 use Rattle.background_additions.proofs.add_picture.Goals as goal

@@ -1,6 +1,5 @@
 -- `background_additions::add_still` meets its contract. Assumes nothing.
 use mathlib.Core.Path.{sym, ◌∙◌}
-use lib.ListN.{length}
 use Rattle.lists.proofs.Part.{tail_mid}
 use Rattle.background_additions.proofs.Tests.{still_refuses, still_read, readable}
 use Rattle.background_additions.proofs.add_still.Goals as goal

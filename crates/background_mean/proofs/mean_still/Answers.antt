@@ -1,7 +1,5 @@
 -- `background_mean::mean_still` meets its contract. Assumes nothing.
-use Prim.Native.Nat.{ℕ}
-use native.Mathlib.Omega.{arith}
-use mathlib.Core.Path.{refl, sym, ap, ◌∙◌}
+use mathlib.Core.Path.{refl, sym, ◌∙◌}
 use Rattle.background_mean.proofs.MeanLaws.{shown, written}
 use Rattle.background_mean.proofs.mean_still.Goals as goal
 

@@ -1,12 +1,9 @@
 -- `background_slots::find` meets its contract: no slot before i has the number. Assumes nothing.
-use Prim.Native.Nat.{ℕ, ◌+◌, ◌*◌, ◌-◌, ◌≤◌, ◌<◌}
-use native.Mathlib.Omega.{arith}
-use mathlib.Core.Path.{◌≡◌, refl, sym, ◌∙◌}
+use Prim.Native.Nat.{ℕ, ◌*◌, ◌-◌, ◌≤◌, ◌<◌}
+use mathlib.Core.Path.{◌≡◌}
 use mathlib.Core.Bool.{false}
 use lib.ListN.{get_or}
 use lib.Dec.{eqb}
-use borrow.Author.Tests.{eq-eqb, ne_eqb}
-use Rattle.background_slots.proofs.Search.{met_at, not_yet, not_met}
 use Rattle.background_slots.proofs.find.Given as goal
 
 abbrev pub invariant-loop-i : goal.invariant-loop-i

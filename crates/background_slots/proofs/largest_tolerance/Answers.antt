@@ -1,10 +1,8 @@
 -- `background_slots::largest_tolerance` meets its contract: the largest so far. Assumes nothing.
-use Prim.Native.Nat.{ℕ, ◌+◌, ◌*◌, ◌-◌, ◌≤◌, max}
+use Prim.Native.Nat.{ℕ, ◌+◌, ◌*◌, ◌-◌, max}
 use native.Mathlib.Omega.{arith}
-use mathlib.Core.Path.{◌≡◌, sym, ap, ◌∙◌}
+use mathlib.Core.Path.{sym, ap, ◌∙◌}
 use lib.ListN.{get_or}
-use Rattle.lists.specs.Tabulate.{tabulate}
-use Rattle.model.specs.Outline.{largest}
 use Rattle.background_slots.proofs.Search.{largest-none, largest-more}
 use native.Mathlib.Nat.{le_antisymm}
 use Rattle.background_slots.proofs.largest_tolerance.Goals as goal

@@ -1,12 +1,9 @@
 -- `background_slots::largest_tolerance` meets its contract: the largest so far. Assumes nothing.
-use Prim.Native.Nat.{ℕ, ◌+◌, ◌*◌, ◌-◌, ◌≤◌, max}
-use native.Mathlib.Omega.{arith}
-use mathlib.Core.Path.{◌≡◌, sym, ap, ◌∙◌}
+use Prim.Native.Nat.{ℕ, ◌+◌, ◌*◌, ◌-◌, ◌≤◌}
+use mathlib.Core.Path.{◌≡◌}
 use lib.ListN.{get_or}
 use Rattle.lists.specs.Tabulate.{tabulate}
 use Rattle.model.specs.Outline.{largest}
-use Rattle.background_slots.proofs.Search.{largest-none, largest-more}
-use native.Mathlib.Nat.{le_antisymm}
 use Rattle.background_slots.proofs.largest_tolerance.Given as goal
 
 abbrev pub invariant-loop-i : goal.invariant-loop-i

@@ -3,8 +3,8 @@ use Prim.Native.Nat.{ℕ, ◌+◌, ◌-◌}
 use native.Mathlib.Omega.{arith}
 use mathlib.Core.Path.{◌∙◌, ap}
 use mathlib.Core.List.{List, ◌++◌}
-use lib.ListN.{get_or, drop}
-use Rattle.lists.proofs.Stored.{Stored, stored_none, stored_more, stored_done}
+use lib.ListN.{drop}
+use Rattle.lists.proofs.Stored.{stored_none, stored_more, stored_done}
 use Rattle.background_slots.proofs.SlotLaws.{entries_from, entry_past}
 use Rattle.background_slots.proofs.move_to_front.Goals as goal
 

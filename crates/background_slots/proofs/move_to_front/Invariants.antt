@@ -1,11 +1,7 @@
 -- `background_slots::move_to_front` meets its contract: what is stored so far, then what was there. Assumes nothing.
 use Prim.Native.Nat.{ℕ, ◌+◌, ◌-◌}
-use native.Mathlib.Omega.{arith}
-use mathlib.Core.Path.{◌∙◌, ap}
-use mathlib.Core.List.{List, ◌++◌}
-use lib.ListN.{get_or, drop}
-use Rattle.lists.proofs.Stored.{Stored, stored_none, stored_more, stored_done}
-use Rattle.background_slots.proofs.SlotLaws.{entries_from, entry_past}
+use lib.ListN.{get_or}
+use Rattle.lists.proofs.Stored.{Stored}
 use Rattle.background_slots.proofs.move_to_front.Given as goal
 
 abbrev pub invariant-loop-j : goal.invariant-loop-j

@@ -1,5 +1,4 @@
 -- `background_slots::put_raster` meets its contract: the raster in front of the part lent. Assumes nothing.
-use Prim.Native.Nat.{◌*◌}
 use native.Mathlib.Omega.{arith}
 use lib.Seq.{take_all}
 use Rattle.background_slots.proofs.SlotLaws.{raster_put}

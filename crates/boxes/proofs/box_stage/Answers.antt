@@ -1,8 +1,6 @@
 -- `boxes::box_stage` meets its contract: the plane kept behind is the one before the stage. Assumes nothing.
 use Prim.Native.Nat.{◌*◌}
 use native.Mathlib.Omega.{arith}
-use mathlib.Core.Path.{refl}
-use lib.ListN.{length-replicate}
 use Rattle.kept_planes.proofs.Planes.{part_behind, plane_small, behind_copied}
 use Rattle.boxes.proofs.box_stage.Goals as goal
 

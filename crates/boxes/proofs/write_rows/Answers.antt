@@ -8,13 +8,10 @@ use lib.ListN.{length, take, drop, length-drop}
 use lib.Seq.{take_at}
 use Rattle.lists.proofs.Part.{tail_mid}
 use Rattle.lists.proofs.Raster.{length-raster}
-use Rattle.lists.proofs.Stored.{StoredRows, rows_stored_none, rows_stored_more, rows_stored_done, row_room}
+use Rattle.lists.proofs.Stored.{rows_stored_none, rows_stored_more, rows_stored_done, row_room}
 use Rattle.model.specs.Window as Model
-use Rattle.model.specs.Box.{box_result}
 use Rattle.model_laws.proofs.Window.{area-le}
-use Rattle.frame.specs.Framed.{neighbours, worked}
-use Rattle.table_sizes.specs.Ring.{row_start}
-use Rattle.area_tables.specs.HeldTable.{HeldTable}
+use Rattle.frame.specs.Framed.{worked}
 use Rattle.kept_planes.specs.HeldRow.{kept}
 use Rattle.kept_planes.proofs.Planes.{part_behind, plane_behind, plane_small, kept_same, kept_bytes}
 use Rattle.boxes.proofs.Windows.{held_le, row_means}

@@ -1,23 +1,14 @@
 -- `boxes::write_rows` meets its contract: the rows of means so far in front, the rows of sums up to their windows' edge, and behind the plane as it was. Assumes nothing.
-use Prim.Native.Nat.{ℕ, ◌+◌, ◌-◌, ◌*◌, ◌≤◌, ◌<◌}
-use native.Mathlib.Nat.{le_refl, add-zero}
-use native.Mathlib.Omega.{arith}
-use mathlib.Core.Path.{◌≡◌, refl, ap, ◌∙◌}
-use mathlib.Core.List.{List, ◌++◌}
-use lib.ListN.{length, take, drop, length-drop}
-use lib.Seq.{take_at}
-use Rattle.lists.proofs.Part.{tail_mid}
-use Rattle.lists.proofs.Raster.{length-raster}
-use Rattle.lists.proofs.Stored.{StoredRows, rows_stored_none, rows_stored_more, rows_stored_done, row_room}
+use Prim.Native.Nat.{◌+◌, ◌-◌, ◌*◌}
+use mathlib.Core.Path.{◌≡◌}
+use lib.ListN.{length}
+use Rattle.lists.proofs.Stored.{StoredRows}
 use Rattle.model.specs.Window as Model
 use Rattle.model.specs.Box.{box_result}
-use Rattle.model_laws.proofs.Window.{area-le}
-use Rattle.frame.specs.Framed.{neighbours, worked}
+use Rattle.frame.specs.Framed.{neighbours}
 use Rattle.table_sizes.specs.Ring.{row_start}
 use Rattle.area_tables.specs.HeldTable.{HeldTable}
 use Rattle.kept_planes.specs.HeldRow.{kept}
-use Rattle.kept_planes.proofs.Planes.{part_behind, plane_behind, plane_small, kept_same, kept_bytes}
-use Rattle.boxes.proofs.Windows.{held_le, row_means}
 use Rattle.boxes.proofs.write_rows.Given as goal
 
 abbrev pub invariant-loop-v : goal.invariant-loop-v

@@ -1,11 +1,9 @@
 -- `buffers::copy_front` meets its contract: what is stored so far, then what was there. Assumes nothing.
-use Prim.Native.Nat.{ℕ, ◌≤◌, ◌-◌}
+use Prim.Native.Nat.{◌-◌}
 use native.Mathlib.Nat.{le_antisymm}
 use native.Mathlib.Omega.{arith}
-use mathlib.Core.Path.{◌≡◌, refl, ◌∙◌}
-use mathlib.Core.List.{◌++◌}
-use lib.ListN.{length, get_or, drop, length-set}
-use Rattle.lists.specs.Tabulate.{tabulate}
+use mathlib.Core.Path.{refl, ◌∙◌}
+use lib.ListN.{length-set}
 use Rattle.lists.proofs.Tabulate.{fill_none, fill_more, tabulate-get_or}
 use Rattle.buffers.proofs.copy_front.Goals as goal
 

@@ -1,18 +1,13 @@
 -- `carried_rank_rows::rank_along` meets its contract: the samples stored so far, for whatever row has these rows in its windows; what is counted is the window of the sample that comes next, and so many of its samples are below the level that is carried along. Assumes nothing.
 use Prim.Native.Nat.{ℕ, ◌+◌, ◌-◌, ◌*◌}
-use native.Mathlib.Omega.{arith}
-use mathlib.Core.Path.{◌≡◌, refl, sym, ◌∙◌}
+use mathlib.Core.Path.{◌≡◌}
 use Rattle.frame.specs.Framed.{neighbours}
 use Rattle.model.specs.Rank.{rank_result}
 use Rattle.histograms.specs.Histogram.{histogram}
 use Rattle.histograms.specs.Position.{Summed}
-use Rattle.histograms.proofs.Counts.{length-histogram}
-use Rattle.histograms.proofs.Below.{total-none}
 use Rattle.window_columns.specs.Rows.{row_starts}
 use Rattle.window_columns.specs.Columns.{column_in, side_by_side}
-use Rattle.window_columns.proofs.Placed.{starts_rows}
-use Rattle.lists.proofs.Stored.{Stored, stored_none, stored_more, stored_done}
-use Rattle.carried_ranks.proofs.RankWindow.{level-there, rank-found}
+use Rattle.lists.proofs.Stored.{Stored}
 use Rattle.carried_rank_rows.proofs.rank_along.Given as goal
 
 abbrev pub invariant-loop-u : goal.invariant-loop-u

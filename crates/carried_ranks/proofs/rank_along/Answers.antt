@@ -5,14 +5,9 @@ use native.Mathlib.Omega.{arith}
 use mathlib.Core.Path.{◌≡◌, refl, sym, ◌∙◌}
 use lib.ListN.{length, take, drop, set, length-set}
 use lib.Seq.{drop-set-lt}
-use Rattle.frame.specs.Framed.{neighbours}
 use Rattle.lists.proofs.Raster.{row_fits}
-use Rattle.model.specs.Rank.{rank_result}
-use Rattle.histograms.specs.Histogram.{histogram}
-use Rattle.histograms.specs.Position.{Summed}
 use Rattle.histograms.proofs.Counts.{length-histogram}
 use Rattle.histograms.proofs.Below.{total-none}
-use Rattle.window_columns.specs.Columns.{column_in, side_by_side}
 use Rattle.window_columns.proofs.Placed.{starts_rows}
 use Rattle.lists.proofs.StoredAt.{stored, stored_none, stored_more}
 use Rattle.kept_planes.proofs.Planes.{part_behind, plane_behind, plane_small, kept_bytes}

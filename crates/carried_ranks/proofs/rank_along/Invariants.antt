@@ -1,22 +1,13 @@
 -- `carried_ranks::rank_along` meets its contract: the samples stored so far, in place of what was there; the plane behind is as it was; what is counted is the window of the sample that comes next, and so many of its samples are below the level that is carried along. Assumes nothing.
-use Prim.Native.Nat.{◌+◌, ◌-◌, ◌*◌, ◌≤◌, ◌<◌}
-use native.Mathlib.Nat.{le_antisymm}
-use native.Mathlib.Omega.{arith}
-use mathlib.Core.Path.{◌≡◌, refl, sym, ◌∙◌}
-use lib.ListN.{length, take, drop, set, length-set}
-use lib.Seq.{drop-set-lt}
+use Prim.Native.Nat.{◌+◌, ◌-◌, ◌≤◌}
+use mathlib.Core.Path.{◌≡◌}
+use lib.ListN.{length, take, drop}
 use Rattle.frame.specs.Framed.{neighbours}
-use Rattle.lists.proofs.Raster.{row_fits}
 use Rattle.model.specs.Rank.{rank_result}
 use Rattle.histograms.specs.Histogram.{histogram}
 use Rattle.histograms.specs.Position.{Summed}
-use Rattle.histograms.proofs.Counts.{length-histogram}
-use Rattle.histograms.proofs.Below.{total-none}
 use Rattle.window_columns.specs.Columns.{column_in, side_by_side}
-use Rattle.window_columns.proofs.Placed.{starts_rows}
-use Rattle.lists.proofs.StoredAt.{stored, stored_none, stored_more}
-use Rattle.kept_planes.proofs.Planes.{part_behind, plane_behind, plane_small, kept_bytes}
-use Rattle.carried_ranks.proofs.RankWindow.{level-there, rank-found}
+use Rattle.lists.proofs.StoredAt.{stored}
 use Rattle.carried_ranks.proofs.rank_along.Given as goal
 
 abbrev pub invariant-loop-u : goal.invariant-loop-u

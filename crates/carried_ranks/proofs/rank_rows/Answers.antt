@@ -1,15 +1,10 @@
 -- `carried_ranks::rank_rows` meets its contract: the rows so far in front, and behind the plane as it was. Assumes nothing.
-use Prim.Native.Nat.{◌+◌, ◌-◌, ◌*◌, ◌≤◌}
+use Prim.Native.Nat.{◌+◌, ◌-◌, ◌*◌}
 use native.Mathlib.Nat.{le_antisymm, zero-mul}
 use native.Mathlib.Omega.{arith}
 use mathlib.Core.Path.{◌≡◌, refl}
-use mathlib.Core.List.{◌++◌}
-use lib.ListN.{length, drop}
-use Rattle.frame.specs.Framed.{neighbours, worked}
-use Rattle.lists.specs.Tabulate.{raster}
+use Rattle.frame.specs.Framed.{worked}
 use Rattle.lists.proofs.Raster.{rows_none}
-use Rattle.model.specs.Rank.{rank_result}
-use Rattle.kept_planes.specs.HeldRow.{kept}
 use Rattle.kept_planes.proofs.Planes.{behind_rows, rows_next, rows_front}
 use borrow.Author.Rules.{rules}
 use Rattle.carried_ranks.proofs.rank_rows.Goals as goal

@@ -1,16 +1,12 @@
 -- `carried_ranks::rank_rows` meets its contract: the rows so far in front, and behind the plane as it was. Assumes nothing.
 use Prim.Native.Nat.{◌+◌, ◌-◌, ◌*◌, ◌≤◌}
-use native.Mathlib.Nat.{le_antisymm, zero-mul}
-use native.Mathlib.Omega.{arith}
-use mathlib.Core.Path.{◌≡◌, refl}
+use mathlib.Core.Path.{◌≡◌}
 use mathlib.Core.List.{◌++◌}
 use lib.ListN.{length, drop}
-use Rattle.frame.specs.Framed.{neighbours, worked}
+use Rattle.frame.specs.Framed.{neighbours}
 use Rattle.lists.specs.Tabulate.{raster}
-use Rattle.lists.proofs.Raster.{rows_none}
 use Rattle.model.specs.Rank.{rank_result}
 use Rattle.kept_planes.specs.HeldRow.{kept}
-use Rattle.kept_planes.proofs.Planes.{behind_rows, rows_next, rows_front}
 use Rattle.carried_ranks.proofs.rank_rows.Given as goal
 
 abbrev pub invariant-loop-v : goal.invariant-loop-v

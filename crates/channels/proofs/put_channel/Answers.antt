@@ -1,11 +1,11 @@
 -- `channels::put_channel` meets its contract: the samples so far are in the channel. Assumes nothing.
-use Prim.Native.Nat.{◌+◌, ◌*◌, ◌-◌, ◌≤◌, ◌<◌}
+use Prim.Native.Nat.{◌-◌, ◌<◌}
 use native.Mathlib.Nat.{le_antisymm, mul-le-mul_left}
 use native.Mathlib.Omega.{arith}
-use mathlib.Core.Path.{◌≡◌, refl}
+use mathlib.Core.Path.{refl}
 use lib.ListN.{length, length-set}
 use Rattle.lists.proofs.Raster.{place_fits}
-use Rattle.channels.proofs.Interleaved.{Stored, stored_none, stored_more}
+use Rattle.channels.proofs.Interleaved.{stored_none, stored_more}
 use Rattle.channels.proofs.put_channel.Goals as goal
 
 pub loop-i-init : goal.loop-i-init

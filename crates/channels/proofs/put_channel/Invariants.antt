@@ -1,11 +1,8 @@
 -- `channels::put_channel` meets its contract: the samples so far are in the channel. Assumes nothing.
-use Prim.Native.Nat.{◌+◌, ◌*◌, ◌-◌, ◌≤◌, ◌<◌}
-use native.Mathlib.Nat.{le_antisymm, mul-le-mul_left}
-use native.Mathlib.Omega.{arith}
-use mathlib.Core.Path.{◌≡◌, refl}
-use lib.ListN.{length, length-set}
-use Rattle.lists.proofs.Raster.{place_fits}
-use Rattle.channels.proofs.Interleaved.{Stored, stored_none, stored_more}
+use Prim.Native.Nat.{◌+◌, ◌*◌, ◌-◌, ◌≤◌}
+use mathlib.Core.Path.{◌≡◌}
+use lib.ListN.{length}
+use Rattle.channels.proofs.Interleaved.{Stored}
 use Rattle.channels.proofs.put_channel.Given as goal
 
 abbrev pub invariant-loop-i : goal.invariant-loop-i

@@ -1,11 +1,9 @@
 -- `channels::take_channel` meets its contract: what is stored so far, then what was there. Assumes nothing.
-use Prim.Native.Nat.{ℕ, ◌+◌, ◌*◌, ◌-◌, ◌≤◌}
+use Prim.Native.Nat.{ℕ, ◌-◌}
 use native.Mathlib.Nat.{le_antisymm, mul-le-mul_left}
 use native.Mathlib.Omega.{arith}
-use mathlib.Core.Path.{◌≡◌, refl, ap}
-use mathlib.Core.List.{◌++◌}
-use lib.ListN.{length, get_or, drop, length-set}
-use Rattle.lists.specs.Tabulate.{tabulate}
+use mathlib.Core.Path.{refl, ap}
+use lib.ListN.{get_or, length-set}
 use Rattle.lists.proofs.Tabulate.{fill_none, fill_more}
 use Rattle.lists.proofs.Raster.{place_fits}
 use Rattle.channels.specs.Channel.{channel}

@@ -1,14 +1,9 @@
 -- `channels::take_channel` meets its contract: what is stored so far, then what was there. Assumes nothing.
-use Prim.Native.Nat.{ℕ, ◌+◌, ◌*◌, ◌-◌, ◌≤◌}
-use native.Mathlib.Nat.{le_antisymm, mul-le-mul_left}
-use native.Mathlib.Omega.{arith}
-use mathlib.Core.Path.{◌≡◌, refl, ap}
+use Prim.Native.Nat.{◌+◌, ◌*◌, ◌-◌, ◌≤◌}
+use mathlib.Core.Path.{◌≡◌}
 use mathlib.Core.List.{◌++◌}
-use lib.ListN.{length, get_or, drop, length-set}
+use lib.ListN.{length, get_or, drop}
 use Rattle.lists.specs.Tabulate.{tabulate}
-use Rattle.lists.proofs.Tabulate.{fill_none, fill_more}
-use Rattle.lists.proofs.Raster.{place_fits}
-use Rattle.channels.specs.Channel.{channel}
 use Rattle.channels.proofs.take_channel.Given as goal
 
 abbrev pub invariant-loop-i : goal.invariant-loop-i

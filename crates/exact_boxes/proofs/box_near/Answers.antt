@@ -2,19 +2,13 @@
 use Prim.Native.Nat.{ℕ, ◌+◌, ◌*◌, ◌-◌, ◌≤◌}
 use native.Mathlib.Nat.{mul-le-mul}
 use native.Mathlib.Omega.{arith}
-use mathlib.Core.Path.{◌≡◌, refl, sym, ◌∙◌}
-use mathlib.Core.List.{List}
-use lib.ListN.{length, length-drop}
-use lib.IntN.{ℤ, pos}
+use mathlib.Core.Path.{refl, sym, ◌∙◌}
+use lib.ListN.{length-drop}
+use lib.IntN.{pos}
 use Rattle.model.specs.Window.{area}
-use Rattle.model.specs.Stage.{box}
-use Rattle.model.specs.Exact.{numerator}
-use Rattle.frame.specs.declared.Frame.{Frame}
-use Rattle.frame.specs.Framed.{neighbours}
-use Rattle.near_rows.proofs.RowLaws.{RowsNear, no_rows, one-row-more, row-not-near, all-rows-near, rows_inside}
+use Rattle.near_rows.proofs.RowLaws.{no_rows, one-row-more, row-not-near, all-rows-near, rows_inside}
 use Rattle.lists.proofs.Tabulate.{filled_at, length_filled}
 use Rattle.exact_boxes.proofs.ColumnLaws.{still_long}
-use Rattle.exact_boxes.proofs.RunLaws.{Columns}
 use Rattle.exact_boxes.proofs.RowLaws.{array_tail, columns_fit, row_sums}
 use borrow.Author.Rules.{rules}
 use Rattle.exact_boxes.proofs.box_near.Invariants.{at}

@@ -1,14 +1,13 @@
 -- `exact_boxes::first_columns` meets its contract: row by row. Assumes nothing.
-use Prim.Native.Nat.{◌+◌, ◌*◌, ◌-◌, ◌≤◌}
+use Prim.Native.Nat.{◌+◌, ◌-◌}
 use native.Mathlib.Nat.{le_antisymm}
 use native.Mathlib.Omega.{arith}
-use mathlib.Core.Path.{◌≡◌, refl, ap, ◌∙◌}
+use mathlib.Core.Path.{refl, ap, ◌∙◌}
 use mathlib.Core.List.{List, ◌++◌}
-use lib.ListN.{length, drop}
+use lib.ListN.{drop}
 use lib.IntN.{ℤ, pos}
-use Rattle.lists.specs.Tabulate.{tabulate}
 use Rattle.lists.proofs.Tabulate.{length_filled, tabulate_ext, filled_behind, filled_at}
-use Rattle.exact_boxes.proofs.ColumnLaws.{still_long, rows_sum, front_none, front_more, rows_small, column_first}
+use Rattle.exact_boxes.proofs.ColumnLaws.{still_long, front_none, front_more, rows_small, column_first}
 use Rattle.exact_boxes.proofs.first_columns.Goals as goal
 
 pub loop-j-init : goal.loop-j-init

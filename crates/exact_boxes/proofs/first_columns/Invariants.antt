@@ -1,14 +1,10 @@
 -- `exact_boxes::first_columns` meets its contract: row by row. Assumes nothing.
 use Prim.Native.Nat.{◌+◌, ◌*◌, ◌-◌, ◌≤◌}
-use native.Mathlib.Nat.{le_antisymm}
-use native.Mathlib.Omega.{arith}
-use mathlib.Core.Path.{◌≡◌, refl, ap, ◌∙◌}
-use mathlib.Core.List.{List, ◌++◌}
+use mathlib.Core.Path.{◌≡◌}
+use mathlib.Core.List.{◌++◌}
 use lib.ListN.{length, drop}
-use lib.IntN.{ℤ, pos}
 use Rattle.lists.specs.Tabulate.{tabulate}
-use Rattle.lists.proofs.Tabulate.{length_filled, tabulate_ext, filled_behind, filled_at}
-use Rattle.exact_boxes.proofs.ColumnLaws.{still_long, rows_sum, front_none, front_more, rows_small, column_first}
+use Rattle.exact_boxes.proofs.ColumnLaws.{rows_sum}
 use Rattle.exact_boxes.proofs.first_columns.Given as goal
 
 abbrev pub invariant-loop-j : goal.invariant-loop-j

@@ -1,18 +1,9 @@
 -- `exact_boxes::first_sum` meets its contract: column by column. Assumes nothing.
-use Prim.Native.Nat.{ℕ, ◌*◌, ◌-◌, ◌^◌, ◌≤◌, ◌<◌}
-use native.Mathlib.Nat.{le_antisymm}
-use native.Mathlib.Omega.{arith}
-use lib.ListN.{get_or}
-use lib.IntN.{ℤ, pos, nat_abs, ◌+ℤ◌}
-use lib.Signed.{mag}
-use mir.Syntax.{w32, w64}
-use mir.Val.{of_z, SFits}
-use Rattle.integers.proofs.Parts.{abs_add}
-use Rattle.integers.proofs.Machine.{abs_fits}
-use Rattle.integers.proofs.Registers.{Bits, of-bits, nat_bits, widen_fits, widen_bits, add-fits, add-bits}
+use Prim.Native.Nat.{◌*◌, ◌-◌, ◌^◌, ◌≤◌}
+use lib.IntN.{nat_abs}
+use mir.Syntax.{w64}
+use Rattle.integers.proofs.Registers.{Bits}
 use Rattle.exact_boxes.specs.BoxSums.{run_sum}
-use Rattle.exact_boxes.proofs.SumLaws.{word_size}
-use Rattle.exact_boxes.proofs.RunLaws.{run_none, run_more}
 use Rattle.exact_boxes.proofs.first_sum.Given as goal
 
 abbrev pub invariant-loop-i : goal.invariant-loop-i

@@ -6,8 +6,7 @@ use lib.ListN.{get_or}
 use lib.IntN.{pos}
 use mir.Syntax.{w32, w64}
 use mir.Val.{to_z, of_z}
-use Rattle.lists.proofs.Stored.{Stored, stored_none, stored_more, stored_done}
-use Rattle.exact_boxes.specs.BoxSums.{run_sum}
+use Rattle.lists.proofs.Stored.{stored_none, stored_more, stored_done}
 use Rattle.exact_boxes.proofs.RunLaws.{run_next, run-size}
 use borrow.Author.Rules.{rules}
 use Rattle.exact_boxes.proofs.window_sums.Goals as goal

@@ -1,14 +1,8 @@
 -- `exact_boxes::window_sums` meets its contract: what is stored so far, and the next sum. Assumes nothing.
-use Prim.Native.Nat.{◌+◌, ◌-◌}
-use native.Mathlib.Omega.{arith}
-use mathlib.Core.Path.{◌≡◌, ◌∙◌}
-use lib.ListN.{get_or}
-use lib.IntN.{pos}
-use mir.Syntax.{w32, w64}
-use mir.Val.{to_z, of_z}
-use Rattle.lists.proofs.Stored.{Stored, stored_none, stored_more, stored_done}
+use Prim.Native.Nat.{◌-◌}
+use mathlib.Core.Path.{◌≡◌}
+use Rattle.lists.proofs.Stored.{Stored}
 use Rattle.exact_boxes.specs.BoxSums.{run_sum}
-use Rattle.exact_boxes.proofs.RunLaws.{run_next, run-size}
 use Rattle.exact_boxes.proofs.window_sums.Given as goal
 
 abbrev pub invariant-loop-u : goal.invariant-loop-u

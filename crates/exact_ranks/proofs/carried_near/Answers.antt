@@ -1,10 +1,10 @@
 -- `exact_ranks::carried_near` meets its contract: row by row, and the first row that is not near decides. Assumes nothing.
-use Prim.Native.Nat.{◌-◌, ◌≤◌}
+use Prim.Native.Nat.{◌-◌}
 use native.Mathlib.Omega.{arith}
-use mathlib.Core.Path.{◌≡◌, refl}
-use lib.ListN.{length, get_or}
+use mathlib.Core.Path.{refl}
+use lib.ListN.{get_or}
 use lib.IntN.{pos}
-use Rattle.near_rows.proofs.RowLaws.{RowsNear, no_rows, one-row-more, row-not-near, all-rows-near, rows_inside}
+use Rattle.near_rows.proofs.RowLaws.{no_rows, one-row-more, row-not-near, all-rows-near, rows_inside}
 use Rattle.exact_ranks.proofs.Ranks.{rank_at, row_ranks}
 use borrow.Author.Rules.{rules}
 use Rattle.exact_ranks.proofs.carried_near.Goals as goal

@@ -1,11 +1,9 @@
 -- `exact_ranks::carried_near` meets its contract: row by row, and the first row that is not near decides. Assumes nothing.
 use Prim.Native.Nat.{◌-◌, ◌≤◌}
-use native.Mathlib.Omega.{arith}
-use mathlib.Core.Path.{◌≡◌, refl}
-use lib.ListN.{length, get_or}
-use lib.IntN.{pos}
-use Rattle.near_rows.proofs.RowLaws.{RowsNear, no_rows, one-row-more, row-not-near, all-rows-near, rows_inside}
-use Rattle.exact_ranks.proofs.Ranks.{rank_at, row_ranks}
+use mathlib.Core.Path.{◌≡◌}
+use lib.ListN.{length}
+use Rattle.near_rows.proofs.RowLaws.{RowsNear}
+use Rattle.exact_ranks.proofs.Ranks.{rank_at}
 use Rattle.exact_ranks.proofs.carried_near.Given as goal
 
 abbrev pub invariant-loop-v : goal.invariant-loop-v

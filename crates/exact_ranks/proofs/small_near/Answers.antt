@@ -3,10 +3,8 @@ use Prim.Native.Nat.{ℕ, ◌+◌, ◌*◌, ◌-◌, ◌≤◌}
 use native.Mathlib.Nat.{mul-le-mul}
 use native.Mathlib.Omega.{arith}
 use mathlib.Core.Path.{◌≡◌, refl}
-use lib.ListN.{length}
 use Rattle.model_laws.proofs.Window.{area-le}
-use Rattle.near_rows.proofs.RowLaws.{RowsNear, no_rows, one-row-more, row-not-near, all-rows-near, rows_inside}
-use Rattle.small_rank_rows.specs.HeldRows.{HeldRows}
+use Rattle.near_rows.proofs.RowLaws.{no_rows, one-row-more, row-not-near, all-rows-near, rows_inside}
 use Rattle.exact_ranks.proofs.Ranks.{rank_at, row_ranks}
 use borrow.Author.Rules.{rules}
 use Rattle.exact_ranks.proofs.small_near.Goals as goal

@@ -1,13 +1,10 @@
 -- `exact_ranks::small_near` meets its contract: row by row, with the rows of its windows in hand, and the first row that is not near decides. Assumes nothing.
-use Prim.Native.Nat.{ℕ, ◌+◌, ◌*◌, ◌-◌, ◌≤◌}
-use native.Mathlib.Nat.{mul-le-mul}
-use native.Mathlib.Omega.{arith}
-use mathlib.Core.Path.{◌≡◌, refl}
+use Prim.Native.Nat.{◌+◌, ◌*◌, ◌-◌, ◌≤◌}
+use mathlib.Core.Path.{◌≡◌}
 use lib.ListN.{length}
-use Rattle.model_laws.proofs.Window.{area-le}
-use Rattle.near_rows.proofs.RowLaws.{RowsNear, no_rows, one-row-more, row-not-near, all-rows-near, rows_inside}
+use Rattle.near_rows.proofs.RowLaws.{RowsNear}
 use Rattle.small_rank_rows.specs.HeldRows.{HeldRows}
-use Rattle.exact_ranks.proofs.Ranks.{rank_at, row_ranks}
+use Rattle.exact_ranks.proofs.Ranks.{rank_at}
 use Rattle.exact_ranks.proofs.small_near.Given as goal
 
 abbrev pub invariant-loop-v : goal.invariant-loop-v

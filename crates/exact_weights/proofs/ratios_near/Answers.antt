@@ -1,17 +1,10 @@
 -- `exact_weights::ratios_near` meets its contract: row by row, and the first row that is not near decides. Assumes nothing.
-use Prim.Native.Nat.{ℕ, ◌-◌, ◌≤◌}
+use Prim.Native.Nat.{◌-◌}
 use native.Mathlib.Omega.{arith}
-use mathlib.Core.Path.{◌≡◌, refl}
-use mathlib.Core.List.{List}
-use lib.ListN.{length, get_or}
-use lib.IntN.{ℤ, pos}
-use Rattle.model.specs.Stage.{weighted}
-use Rattle.model.specs.Exact.{numerator}
-use Rattle.frame.specs.declared.Frame.{Frame}
-use Rattle.frame.specs.Framed.{neighbours}
-use Rattle.near_rows.proofs.RowLaws.{RowsNear, no_rows, one-row-more, row-not-near, all-rows-near, rows_inside}
-use Rattle.whole_taps.specs.declared.Taps.{Taps}
-use Rattle.whole_taps.specs.Whole.{kernel_is}
+use mathlib.Core.Path.{refl}
+use lib.ListN.{get_or}
+use lib.IntN.{pos}
+use Rattle.near_rows.proofs.RowLaws.{no_rows, one-row-more, row-not-near, all-rows-near, rows_inside}
 use borrow.Author.Rules.{rules}
 use Rattle.exact_weights.proofs.ratios_near.Invariants.{at}
 use Rattle.exact_weights.proofs.ratios_near.Goals as goal

@@ -1,15 +1,14 @@
 -- `exact_weights::ratios_near` meets its contract: row by row, and the first row that is not near decides. Assumes nothing.
 use Prim.Native.Nat.{ℕ, ◌-◌, ◌≤◌}
-use native.Mathlib.Omega.{arith}
-use mathlib.Core.Path.{◌≡◌, refl}
+use mathlib.Core.Path.{◌≡◌}
 use mathlib.Core.List.{List}
-use lib.ListN.{length, get_or}
-use lib.IntN.{ℤ, pos}
+use lib.ListN.{length}
+use lib.IntN.{ℤ}
 use Rattle.model.specs.Stage.{weighted}
 use Rattle.model.specs.Exact.{numerator}
 use Rattle.frame.specs.declared.Frame.{Frame}
 use Rattle.frame.specs.Framed.{neighbours}
-use Rattle.near_rows.proofs.RowLaws.{RowsNear, no_rows, one-row-more, row-not-near, all-rows-near, rows_inside}
+use Rattle.near_rows.proofs.RowLaws.{RowsNear}
 use Rattle.whole_taps.specs.declared.Taps.{Taps}
 use Rattle.whole_taps.specs.Whole.{kernel_is}
 use Rattle.exact_weights.proofs.ratios_near.Given as goal

@@ -1,14 +1,13 @@
 -- `exact_weights::sums_across` meets its contract: tap by tap. Assumes nothing.
-use Prim.Native.Nat.{ℕ, ◌+◌, ◌-◌, ◌≤◌}
+use Prim.Native.Nat.{◌+◌, ◌-◌}
 use native.Mathlib.Nat.{le_antisymm}
 use native.Mathlib.Omega.{arith}
 use mathlib.Core.Path.{◌≡◌, refl, ap, ◌∙◌}
 use mathlib.Core.List.{List, ◌++◌}
 use mir.Syntax.{w32}
 use mir.Val.{to_z, of_z}
-use lib.ListN.{length, get_or, drop, length-drop}
+use lib.ListN.{get_or, drop, length-drop}
 use lib.IntN.{ℤ, pos}
-use Rattle.lists.specs.Tabulate.{tabulate}
 use Rattle.lists.proofs.Part.{tail_mid}
 use Rattle.lists.proofs.Tabulate.{length_filled, filled_behind, filled_at, tabulate_ext}
 use Rattle.tap_sums.specs.HeldSums.{held_sum}

@@ -1,16 +1,14 @@
 -- `exact_weights::sums_down` meets its contract: tap by tap, each with the padded row that it reaches. Assumes nothing.
-use Prim.Native.Nat.{ℕ, ◌+◌, ◌-◌, ◌≤◌}
+use Prim.Native.Nat.{◌+◌, ◌-◌}
 use native.Mathlib.Nat.{le_antisymm}
 use native.Mathlib.Omega.{arith}
 use mathlib.Core.Path.{◌≡◌, refl, ap, ◌∙◌}
 use mathlib.Core.List.{List, ◌++◌}
 use mir.Syntax.{w32}
 use mir.Val.{to_z, of_z}
-use lib.ListN.{length, get_or, drop}
+use lib.ListN.{get_or, drop}
 use lib.IntN.{ℤ, pos}
-use Rattle.lists.specs.Tabulate.{tabulate}
 use Rattle.lists.proofs.Tabulate.{length_filled, filled_behind, filled_at, tabulate_ext}
-use Rattle.frame.specs.declared.Frame.{Frame}
 use Rattle.frame.specs.Padded.{padded}
 use Rattle.frame.proofs.Supplied.{padded-le}
 use Rattle.tap_sums.specs.HeldSums.{held_sum}

@@ -1,12 +1,9 @@
 -- `frame::side` meets its contract: what is stored so far, then what was there. Assumes nothing.
 use Prim.Native.Nat.{◌+◌, ◌-◌, ◌≤◌}
-use native.Mathlib.Nat.{le_antisymm}
-use native.Mathlib.Omega.{arith}
-use mathlib.Core.Path.{◌≡◌, refl}
+use mathlib.Core.Path.{◌≡◌}
 use mathlib.Core.List.{◌++◌}
-use lib.ListN.{length, drop, length-set}
+use lib.ListN.{length, drop}
 use Rattle.lists.specs.Tabulate.{tabulate}
-use Rattle.lists.proofs.Tabulate.{fill_none, fill_more}
 use Rattle.frame.specs.Padded.{row_sample}
 use Rattle.frame.proofs.side.Given as goal
 

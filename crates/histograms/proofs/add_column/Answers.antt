@@ -1,11 +1,9 @@
 -- `histograms::add_column` meets its contract: what is counted so far. Assumes nothing.
-use Prim.Native.Nat.{◌+◌, ◌-◌, ◌≤◌}
+use Prim.Native.Nat.{◌-◌}
 use native.Mathlib.Nat.{le_antisymm}
 use native.Mathlib.Omega.{arith}
-use mathlib.Core.Path.{◌≡◌, refl}
-use lib.ListN.{length, get_or, length-set}
-use Rattle.lists.specs.Tabulate.{tabulate}
-use Rattle.histograms.specs.Histogram.{below_level, counted}
+use mathlib.Core.Path.{refl}
+use lib.ListN.{length-set}
 use Rattle.histograms.specs.Column.{column_of}
 use Rattle.lists.proofs.Tabulate.{length-tabulate}
 use Rattle.histograms.proofs.Counts.{counted_none, counted-more, counted-le}

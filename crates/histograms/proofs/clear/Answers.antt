@@ -1,11 +1,9 @@
 -- `histograms::clear` meets its contract: the zeros so far. Assumes nothing.
-use Prim.Native.Nat.{◌-◌, ◌≤◌}
+use Prim.Native.Nat.{◌-◌}
 use native.Mathlib.Nat.{le_antisymm}
 use native.Mathlib.Omega.{arith}
-use mathlib.Core.Path.{◌≡◌, refl}
-use mathlib.Core.List.{◌++◌}
-use lib.ListN.{length, drop, length-set}
-use Rattle.lists.specs.Tabulate.{tabulate}
+use mathlib.Core.Path.{refl}
+use lib.ListN.{length-set}
 use Rattle.lists.proofs.Tabulate.{fill_none, fill_more}
 use Rattle.histograms.proofs.Counts.{zeros}
 use Rattle.histograms.proofs.clear.Goals as goal

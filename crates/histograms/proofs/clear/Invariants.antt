@@ -1,13 +1,9 @@
 -- `histograms::clear` meets its contract: the zeros so far. Assumes nothing.
 use Prim.Native.Nat.{◌-◌, ◌≤◌}
-use native.Mathlib.Nat.{le_antisymm}
-use native.Mathlib.Omega.{arith}
-use mathlib.Core.Path.{◌≡◌, refl}
+use mathlib.Core.Path.{◌≡◌}
 use mathlib.Core.List.{◌++◌}
-use lib.ListN.{length, drop, length-set}
+use lib.ListN.{length, drop}
 use Rattle.lists.specs.Tabulate.{tabulate}
-use Rattle.lists.proofs.Tabulate.{fill_none, fill_more}
-use Rattle.histograms.proofs.Counts.{zeros}
 use Rattle.histograms.proofs.clear.Given as goal
 
 abbrev pub invariant-loop-g : goal.invariant-loop-g

@@ -1,8 +1,6 @@
 -- `histograms::down_to` meets its contract: what is below a level is the sum of the counts before it. Assumes nothing.
 use Prim.Native.Nat.{◌-◌}
 use native.Mathlib.Omega.{arith}
-use mathlib.Core.Path.{◌≡◌}
-use Rattle.histograms.specs.Histogram.{total}
 use Rattle.histograms.proofs.Below.{total_last}
 use Rattle.histograms.proofs.down_to.Goals as goal
 

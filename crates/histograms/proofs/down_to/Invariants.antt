@@ -1,9 +1,7 @@
 -- `histograms::down_to` meets its contract: what is below a level is the sum of the counts before it. Assumes nothing.
 use Prim.Native.Nat.{◌-◌}
-use native.Mathlib.Omega.{arith}
 use mathlib.Core.Path.{◌≡◌}
 use Rattle.histograms.specs.Histogram.{total}
-use Rattle.histograms.proofs.Below.{total_last}
 use Rattle.histograms.proofs.down_to.Given as goal
 
 abbrev pub invariant-loop-below : goal.invariant-loop-below

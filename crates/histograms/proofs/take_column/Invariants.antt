@@ -1,14 +1,9 @@
 -- `histograms::take_column` meets its contract: what is taken off so far. Assumes nothing.
 use Prim.Native.Nat.{◌+◌, ◌-◌, ◌≤◌}
-use native.Mathlib.Nat.{le_antisymm}
-use native.Mathlib.Omega.{arith}
 use mathlib.Core.Path.{◌≡◌}
-use lib.ListN.{length, get_or, length-set}
+use lib.ListN.{length, get_or}
 use Rattle.lists.specs.Tabulate.{tabulate}
 use Rattle.histograms.specs.Histogram.{below_level, counted}
-use Rattle.histograms.specs.Column.{column_of}
-use Rattle.histograms.proofs.Counts.{counted_none, taken_more, still-counted}
-use Rattle.histograms.proofs.Below.{below_none_of, below-one-more, few_below}
 use Rattle.histograms.proofs.take_column.Given as goal
 
 abbrev pub invariant-loop-k : goal.invariant-loop-k

@@ -1,10 +1,8 @@
 -- `histograms::up_to` meets its contract: what is below a level is the sum of the counts before it, and less than p. Assumes nothing.
 use Prim.Native.Nat.{◌-◌, ◌≤◌, ◌<◌}
-use native.Mathlib.Omega.{arith}
 use mathlib.Core.Path.{◌≡◌}
 use lib.ListN.{get_or}
 use Rattle.histograms.specs.Histogram.{total}
-use Rattle.histograms.proofs.Below.{total-more, total-room}
 use Rattle.histograms.proofs.up_to.Given as goal
 
 abbrev pub invariant-loop-below : goal.invariant-loop-below

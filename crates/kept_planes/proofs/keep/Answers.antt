@@ -1,10 +1,10 @@
 -- `kept_planes::keep` meets its contract: the copy so far, in place of what was there. Assumes nothing.
-use Prim.Native.Nat.{◌-◌, ◌≤◌}
+use Prim.Native.Nat.{◌-◌}
 use native.Mathlib.Nat.{le_antisymm}
 use native.Mathlib.Omega.{arith}
-use mathlib.Core.Path.{◌≡◌, refl}
-use lib.ListN.{length, length-set, get_or}
-use Rattle.lists.proofs.StoredAt.{stored, stored_none, stored_more, before_stored, copied}
+use mathlib.Core.Path.{refl}
+use lib.ListN.{length-set}
+use Rattle.lists.proofs.StoredAt.{stored_none, stored_more, before_stored, copied}
 use Rattle.kept_planes.proofs.keep.Goals as goal
 
 pub loop-i-init : goal.loop-i-init

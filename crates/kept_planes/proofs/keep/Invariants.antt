@@ -1,10 +1,8 @@
 -- `kept_planes::keep` meets its contract: the copy so far, in place of what was there. Assumes nothing.
 use Prim.Native.Nat.{◌-◌, ◌≤◌}
-use native.Mathlib.Nat.{le_antisymm}
-use native.Mathlib.Omega.{arith}
-use mathlib.Core.Path.{◌≡◌, refl}
-use lib.ListN.{length, length-set, get_or}
-use Rattle.lists.proofs.StoredAt.{stored, stored_none, stored_more, before_stored, copied}
+use mathlib.Core.Path.{◌≡◌}
+use lib.ListN.{length, get_or}
+use Rattle.lists.proofs.StoredAt.{stored}
 use Rattle.kept_planes.proofs.keep.Given as goal
 
 abbrev pub invariant-loop-i : goal.invariant-loop-i

@@ -1,5 +1,5 @@
 -- `mean_rows::mean` meets its contract. Assumes nothing.
-use Rattle.std.proofs.Common.{◌≡◌, ℕ, ◌+◌, ◌-◌, ◌*◌, ◌/◌, ◌^◌, ◌<◌, ◌≤◌, div-lt_iff_lt-mul, mul-le-mul, div-le_self, arith, rules}
+use Rattle.std.proofs.Common.{◌≡◌, ℕ, ◌+◌, ◌-◌, ◌*◌, ◌/◌, ◌^◌, ◌<◌, ◌≤◌, div-lt_iff_lt-mul, mul-le-mul, div-le_self, arith}
 use Rattle.integers.proofs.Reciprocal.{by_reciprocal}
 use Rattle.mean_rows.proofs.mean.Goals as goal
 

@@ -1,5 +1,5 @@
 -- `mean_rows::reciprocal` meets its contract: a half of 2^32 at most, so it fits 32 bits. Assumes nothing.
-use Rattle.std.proofs.Common.{◌+◌, ◌-◌, ◌*◌, ◌^◌, div-lt_iff_lt-mul, arith, rules}
+use Rattle.std.proofs.Common.{◌+◌, ◌-◌, ◌*◌, ◌^◌, div-lt_iff_lt-mul, arith}
 use Rattle.mean_rows.proofs.reciprocal.Goals as goal
 
 pub overflow_cast-result : goal.overflow_cast-result

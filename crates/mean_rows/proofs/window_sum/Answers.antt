@@ -1,5 +1,5 @@
 -- `mean_rows::window_sum` meets its contract. Assumes nothing.
-use Rattle.std.proofs.Common.{◌+◌, arith, rules}
+use Rattle.std.proofs.Common.{◌+◌, arith}
 use Rattle.mean_rows.specs.Corners.{corners}
 use Rattle.mean_rows.proofs.Corners.{three_differences}
 use Rattle.mean_rows.proofs.window_sum.Goals as goal

@@ -1,12 +1,11 @@
 -- `motion_counts::count_motions` meets its contract: the counts so far are those of the motions so far. Assumes nothing.
-use Prim.Native.Nat.{◌+◌, ◌-◌, ◌≤◌}
+use Prim.Native.Nat.{◌+◌, ◌-◌}
 use native.Mathlib.Omega.{arith}
-use mathlib.Core.Path.{◌≡◌, refl}
+use mathlib.Core.Path.{refl}
 use Rattle.lists.specs.Tabulate.{tabulate}
 use Rattle.lists.specs.Count.{count}
 use Rattle.model.specs.Within.{distance}
-use Rattle.movement.specs.Motions.{moved_count, still_count}
-use Rattle.motion_counts.proofs.Tally.{at, tally_fits, moved_more, still-more, tallied}
+use Rattle.motion_counts.proofs.Tally.{tally_fits, moved_more, still-more, tallied}
 use Rattle.motion_counts.proofs.count_motions.Goals as goal
 
 pub loop-i-init : goal.loop-i-init

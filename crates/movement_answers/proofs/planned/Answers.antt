@@ -4,7 +4,6 @@ use mathlib.Core.Path.{sym, ◌∙◌}
 use borrow.Author.Tests.{le-leb, lt-leb}
 use Rattle.filter_answers.specs.Limits.{archive}
 use Rattle.filter_answers.proofs.FileAccepted.{shown, pictured, answer_asked}
-use Rattle.movement_answers.specs.Run.{run}
 use Rattle.movement_answers.proofs.Plans.{plan_limit, plan_first, plan_second, plan_refused, plan_done}
 use Rattle.movement_answers.proofs.planned.Goals as goal
 

@@ -1,12 +1,10 @@
 -- `numerators::magnitude` meets its contract: the sum so far. Assumes nothing.
-use Prim.Native.Nat.{ℕ, ◌-◌, ◌≤◌}
+use Prim.Native.Nat.{ℕ, ◌-◌}
 use native.Mathlib.Omega.{arith}
 use native.Mathlib.Nat.{le_antisymm}
-use mathlib.Core.Path.{◌≡◌, sym}
+use mathlib.Core.Path.{sym}
 use lib.ListN.{get_or}
 use lib.IntN.{nat_abs}
-use Rattle.integers.specs.Sum.{sum}
-use Rattle.lists.specs.Tabulate.{tabulate}
 use Rattle.numerators.specs.Numerator.{numerator_of}
 use Rattle.lists.proofs.Sums.{sum_more, sum-none, sum_bound}
 use Rattle.integers.proofs.Parts.{abs_diff}

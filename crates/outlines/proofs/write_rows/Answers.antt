@@ -8,11 +8,9 @@ use lib.ListN.{length, take, drop, length-drop}
 use lib.Seq.{take_at}
 use Rattle.lists.proofs.Part.{tail_mid}
 use Rattle.lists.proofs.Raster.{length-raster}
-use Rattle.lists.proofs.Stored.{StoredRows, rows_stored_none, rows_stored_more, rows_stored_done, row_room}
-use Rattle.model.specs.Outline.{outline_result}
-use Rattle.frame.specs.Framed.{neighbours, worked}
+use Rattle.lists.proofs.Stored.{rows_stored_none, rows_stored_more, rows_stored_done, row_room}
+use Rattle.frame.specs.Framed.{worked}
 use Rattle.kept_planes.proofs.Planes.{plane_behind, plane_small, kept_same}
-use Rattle.kept_planes.specs.HeldRow.{kept, Held}
 use Rattle.outlines.proofs.Rows.{levels}
 use borrow.Author.Rules.{rules}
 use Rattle.outlines.proofs.write_rows.Goals as goal

@@ -1,19 +1,11 @@
 -- `outlines::write_rows` meets its contract: row by row, with the rows above, at and below each in hand. The kept plane is as it was. Assumes nothing.
-use Prim.Native.Nat.{ℕ, ◌+◌, ◌*◌, ◌-◌, ◌≤◌, ◌<◌}
-use native.Mathlib.Nat.{le_refl}
-use native.Mathlib.Omega.{arith}
-use mathlib.Core.Path.{◌≡◌, refl, ap, ◌∙◌}
-use mathlib.Core.List.{List, ◌++◌}
-use lib.ListN.{length, take, drop, length-drop}
-use lib.Seq.{take_at}
-use Rattle.lists.proofs.Part.{tail_mid}
-use Rattle.lists.proofs.Raster.{length-raster}
-use Rattle.lists.proofs.Stored.{StoredRows, rows_stored_none, rows_stored_more, rows_stored_done, row_room}
+use Prim.Native.Nat.{◌+◌, ◌-◌}
+use mathlib.Core.Path.{◌≡◌}
+use lib.ListN.{length}
+use Rattle.lists.proofs.Stored.{StoredRows}
 use Rattle.model.specs.Outline.{outline_result}
-use Rattle.frame.specs.Framed.{neighbours, worked}
-use Rattle.kept_planes.proofs.Planes.{plane_behind, plane_small, kept_same}
+use Rattle.frame.specs.Framed.{neighbours}
 use Rattle.kept_planes.specs.HeldRow.{kept, Held}
-use Rattle.outlines.proofs.Rows.{levels}
 use Rattle.outlines.proofs.write_rows.Given as goal
 
 abbrev pub invariant-loop-v : goal.invariant-loop-v

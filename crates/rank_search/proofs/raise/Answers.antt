@@ -1,9 +1,6 @@
 -- `rank_search::raise` meets its contract: what is stored so far, then what was there. Assumes nothing.
-use Prim.Native.Nat.{◌+◌, ◌-◌}
-use mathlib.Core.Bool.{cond}
-use lib.Dec.{ltb}
-use lib.ListN.{get_or}
-use Rattle.lists.proofs.Stored.{Stored, stored_none, stored_more, stored_next, stored_done}
+use Prim.Native.Nat.{◌-◌}
+use Rattle.lists.proofs.Stored.{stored_none, stored_more, stored_next, stored_done}
 use Rattle.rank_search.proofs.raise.Goals as goal
 
 pub loop-u-init : goal.loop-u-init

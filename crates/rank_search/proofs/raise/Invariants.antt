@@ -3,7 +3,7 @@ use Prim.Native.Nat.{◌+◌, ◌-◌}
 use mathlib.Core.Bool.{cond}
 use lib.Dec.{ltb}
 use lib.ListN.{get_or}
-use Rattle.lists.proofs.Stored.{Stored, stored_none, stored_more, stored_next, stored_done}
+use Rattle.lists.proofs.Stored.{Stored}
 use Rattle.rank_search.proofs.raise.Given as goal
 
 abbrev pub invariant-loop-u : goal.invariant-loop-u

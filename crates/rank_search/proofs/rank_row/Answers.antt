@@ -1,9 +1,8 @@
 -- `rank_search::rank_row` meets its contract: each result is among the levels that are left for its column, down to one. Assumes nothing.
-use Prim.Native.Nat.{ℕ, ◌≤◌, ◌<◌}
+use Prim.Native.Nat.{ℕ}
 use native.Mathlib.Nat.{le_antisymm}
 use native.Mathlib.Omega.{arith}
-use mathlib.Core.Path.{◌≡◌, refl, ◌∙◌}
-use lib.ListN.{length, get_or, drop}
+use mathlib.Core.Path.{refl, ◌∙◌}
 use Rattle.lists.proofs.Tabulate.{filled_at, filled_behind}
 use Rattle.rank_search.specs.WindowAt.{window_at}
 use Rattle.rank_search.proofs.Search.{Among, among_all, halved_left, found-row, window_enough, window_bytes}

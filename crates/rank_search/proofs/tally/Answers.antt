@@ -1,11 +1,8 @@
 -- `rank_search::tally` meets its contract: what is stored so far, then what was there. Assumes nothing.
-use Prim.Native.Nat.{◌+◌, ◌-◌}
+use Prim.Native.Nat.{◌-◌}
 use native.Mathlib.Omega.{arith}
 use mathlib.Core.Path.{◌∙◌}
-use mathlib.Core.Bool.{cond}
-use lib.Dec.{leb}
-use lib.ListN.{get_or}
-use Rattle.lists.proofs.Stored.{Stored, stored_none, stored_more, stored_next, stored_done}
+use Rattle.lists.proofs.Stored.{stored_none, stored_more, stored_next, stored_done}
 use Rattle.rank_search.proofs.tally.Goals as goal
 
 pub loop-u-init : goal.loop-u-init

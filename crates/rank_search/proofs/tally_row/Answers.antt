@@ -1,13 +1,11 @@
 -- `rank_search::tally_row` meets its contract: sample by sample. Assumes nothing.
-use Prim.Native.Nat.{◌+◌, ◌-◌, ◌≤◌}
+use Prim.Native.Nat.{◌-◌}
 use native.Mathlib.Nat.{le_antisymm}
 use native.Mathlib.Omega.{arith}
-use mathlib.Core.Path.{◌≡◌, refl, ◌∙◌}
-use mathlib.Core.List.{◌++◌}
-use lib.ListN.{length, get_or, drop, length-drop}
-use Rattle.lists.specs.Tabulate.{tabulate}
+use mathlib.Core.Path.{refl, ◌∙◌}
+use lib.ListN.{length-drop}
 use Rattle.lists.proofs.Part.{tail_mid}
-use Rattle.rank_search.proofs.Counts.{with_row, with_none, with_more, with_fits}
+use Rattle.rank_search.proofs.Counts.{with_none, with_more, with_fits}
 use Rattle.rank_search.proofs.tally_row.Goals as goal
 
 pub loop-i-init : goal.loop-i-init

@@ -1,13 +1,10 @@
 -- `rank_search::tally_row` meets its contract: sample by sample. Assumes nothing.
 use Prim.Native.Nat.{◌+◌, ◌-◌, ◌≤◌}
-use native.Mathlib.Nat.{le_antisymm}
-use native.Mathlib.Omega.{arith}
-use mathlib.Core.Path.{◌≡◌, refl, ◌∙◌}
+use mathlib.Core.Path.{◌≡◌}
 use mathlib.Core.List.{◌++◌}
-use lib.ListN.{length, get_or, drop, length-drop}
+use lib.ListN.{length, get_or, drop}
 use Rattle.lists.specs.Tabulate.{tabulate}
-use Rattle.lists.proofs.Part.{tail_mid}
-use Rattle.rank_search.proofs.Counts.{with_row, with_none, with_more, with_fits}
+use Rattle.rank_search.proofs.Counts.{with_row}
 use Rattle.rank_search.proofs.tally_row.Given as goal
 
 abbrev pub invariant-loop-i : goal.invariant-loop-i

@@ -2,13 +2,11 @@
 use Prim.Native.Nat.{◌+◌, ◌*◌, ◌-◌, ◌≤◌}
 use native.Mathlib.Nat.{le_antisymm, mul-le-mul}
 use native.Mathlib.Omega.{arith}
-use mathlib.Core.Path.{◌≡◌, refl, ◌∙◌}
-use mathlib.Core.List.{◌++◌}
-use lib.ListN.{length, get_or, drop, length-drop}
-use Rattle.lists.specs.Tabulate.{tabulate}
+use mathlib.Core.Path.{refl, ◌∙◌}
+use lib.ListN.{length, length-drop}
 use Rattle.lists.proofs.Part.{tail_mid}
 use Rattle.lists.proofs.Raster.{row_fits}
-use Rattle.rank_search.proofs.Counts.{over_rows, over_none, over_more, over_fits}
+use Rattle.rank_search.proofs.Counts.{over_none, over_more, over_fits}
 use Rattle.rank_search.proofs.tally_window.Goals as goal
 
 pub loop-j-init : goal.loop-j-init

@@ -1,14 +1,10 @@
 -- `rank_search::tally_window` meets its contract: row by row. Assumes nothing.
 use Prim.Native.Nat.{◌+◌, ◌*◌, ◌-◌, ◌≤◌}
-use native.Mathlib.Nat.{le_antisymm, mul-le-mul}
-use native.Mathlib.Omega.{arith}
-use mathlib.Core.Path.{◌≡◌, refl, ◌∙◌}
+use mathlib.Core.Path.{◌≡◌}
 use mathlib.Core.List.{◌++◌}
-use lib.ListN.{length, get_or, drop, length-drop}
+use lib.ListN.{length, get_or, drop}
 use Rattle.lists.specs.Tabulate.{tabulate}
-use Rattle.lists.proofs.Part.{tail_mid}
-use Rattle.lists.proofs.Raster.{row_fits}
-use Rattle.rank_search.proofs.Counts.{over_rows, over_none, over_more, over_fits}
+use Rattle.rank_search.proofs.Counts.{over_rows}
 use Rattle.rank_search.proofs.tally_window.Given as goal
 
 abbrev pub invariant-loop-j : goal.invariant-loop-j

@@ -1,14 +1,13 @@
 -- `raster_filter::filter_raster` meets its contract: the channels so far are in place, and all else is as it was. Assumes nothing.
-use Prim.Native.Nat.{ℕ, ◌+◌, ◌*◌, ◌-◌, ◌≤◌}
+use Prim.Native.Nat.{ℕ, ◌+◌, ◌*◌, ◌-◌}
 use native.Mathlib.Nat.{mul_comm, mul-le-mul, le_antisymm}
 use native.Mathlib.Omega.{arith}
-use mathlib.Core.Path.{◌≡◌, refl, sym, ap, ◌∙◌}
+use mathlib.Core.Path.{refl, sym, ap, ◌∙◌}
 use mathlib.Core.List.{List}
-use lib.ListN.{length, get_or}
+use lib.ListN.{get_or}
 use lib.Seq.{get_or-take}
-use Rattle.model.specs.Stage.{written}
 use Rattle.recipe.specs.Recipe.{recipe_stages}
-use Rattle.channels.specs.Channel.{channel, placed}
+use Rattle.channels.specs.Channel.{channel}
 use Rattle.channels.proofs.Interleaved.{placed-none, placed-more, placed-all, channel-length}
 use Rattle.raster_filter.specs.FilteredRaster.{filtered_raster}
 use Rattle.stages.proofs.Through.{front_is, front_through}

@@ -1,8 +1,7 @@
 -- `raster_means::add_samples` meets its contract: what is stored so far, then what was there. Assumes nothing.
 use Prim.Native.Nat.{◌+◌, ◌-◌}
-use mathlib.Core.Path.{◌∙◌}
 use lib.ListN.{get_or}
-use Rattle.lists.proofs.Stored.{Stored, stored_none, stored_more, stored_next, stored_done}
+use Rattle.lists.proofs.Stored.{Stored}
 use Rattle.raster_means.proofs.add_samples.Given as goal
 
 abbrev pub invariant-loop-u : goal.invariant-loop-u

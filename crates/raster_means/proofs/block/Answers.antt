@@ -1,12 +1,11 @@
 -- `raster_means::block` meets its contract: the sums, then their means. Assumes nothing.
-use Prim.Native.Nat.{ℕ, ◌+◌, ◌*◌, ◌≤◌}
+use Prim.Native.Nat.{ℕ, ◌+◌}
 use native.Mathlib.Omega.{arith}
-use mathlib.Core.Path.{◌≡◌, ap, ◌∙◌}
+use mathlib.Core.Path.{ap, ◌∙◌}
 use mathlib.Core.List.{List, ◌++◌}
-use lib.ListN.{get_or, drop, replicate}
+use lib.ListN.{drop, replicate}
 use Rattle.lists.proofs.Tabulate.{length_filled, filled_at, tabulate_ext}
 use Rattle.integers.specs.Divide.{nearest}
-use Rattle.raster_means.specs.Sums.{place_sum}
 use Rattle.raster_means.proofs.PlaceSums.{sum-le, zeros}
 use Rattle.raster_means.proofs.block.Goals as goal
 

@@ -1,9 +1,6 @@
 -- `raster_means::block_means` meets its contract: what is stored so far, then what was there. Assumes nothing.
 use Prim.Native.Nat.{◌-◌}
-use mathlib.Core.Path.{◌∙◌}
-use lib.ListN.{get_or}
-use Rattle.lists.proofs.Stored.{Stored, stored_none, stored_more, stored_done}
-use Rattle.integers.specs.Divide.{nearest}
+use Rattle.lists.proofs.Stored.{stored_none, stored_more, stored_done}
 use Rattle.raster_means.proofs.block_means.Goals as goal
 
 pub loop-u-init : goal.loop-u-init

@@ -1,14 +1,11 @@
 -- `raster_means::block_sums` meets its contract: raster by raster. Assumes nothing.
-use Prim.Native.Nat.{ℕ, ◌+◌, ◌*◌, ◌-◌, ◌≤◌, ◌<◌}
+use Prim.Native.Nat.{◌+◌, ◌*◌, ◌-◌}
 use native.Mathlib.Nat.{le_antisymm}
 use native.Mathlib.Omega.{arith}
-use mathlib.Core.Path.{◌≡◌, refl, ◌∙◌}
-use mathlib.Core.List.{◌++◌}
-use lib.ListN.{length, get_or, drop, length-drop}
-use Rattle.lists.specs.Tabulate.{tabulate}
+use mathlib.Core.Path.{refl, ◌∙◌}
+use lib.ListN.{length-drop}
 use Rattle.lists.proofs.Part.{tail_mid}
 use Rattle.lists.proofs.Tabulate.{length_filled, filled_at}
-use Rattle.raster_means.specs.Sums.{place_sum}
 use Rattle.raster_means.proofs.PlaceSums.{sums_none, sums_more, sum-le, part-inside}
 use Rattle.raster_means.proofs.block_sums.Goals as goal
 

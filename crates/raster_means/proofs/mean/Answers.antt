@@ -4,7 +4,6 @@ use native.Mathlib.Nat.{le_refl, mul-le-mul, div-add-mod, div-lt_iff_lt-mul}
 use native.Mathlib.Omega.{arith}
 use mathlib.Core.Path.{◌≡◌}
 use Rattle.integers.proofs.Reciprocal.{by_reciprocal}
-use Rattle.integers.specs.Divide.{nearest}
 use Rattle.raster_means.proofs.mean.Goals as goal
 
 -- what is required

@@ -1,10 +1,10 @@
 -- `raster_means::mean_raster` meets its contract: block by block. Assumes nothing.
-use Prim.Native.Nat.{ℕ, ◌+◌, ◌-◌, ◌≤◌}
+use Prim.Native.Nat.{◌+◌, ◌-◌, ◌≤◌}
 use native.Mathlib.Omega.{arith}
 use mathlib.Core.Path.{ap, ◌∙◌}
 use lib.ListN.{length, length-drop}
 use Rattle.lists.proofs.Part.{tail_mid}
-use Rattle.lists.proofs.Stored.{Stored, stored_none, stored_done}
+use Rattle.lists.proofs.Stored.{stored_none, stored_done}
 use Rattle.lists.proofs.Tabulate.{fill_part, length_filled}
 use Rattle.integers.specs.Divide.{nearest}
 use Rattle.raster_means.specs.Sums.{place_sum}

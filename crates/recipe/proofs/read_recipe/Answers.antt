@@ -1,8 +1,8 @@
 -- `recipe::read_recipe` meets its contract. Assumes nothing.
-use Prim.Native.Nat.{◌+◌, ◌-◌, ◌*◌, ◌≤◌}
+use Prim.Native.Nat.{◌-◌}
 use native.Mathlib.Nat.{sub-zero}
 use native.Mathlib.Omega.{arith}
-use mathlib.Core.Path.{◌≡◌, refl, sym, ap, ◌∙◌}
+use mathlib.Core.Path.{refl, sym, ap, ◌∙◌}
 use lib.ListN.{length, get_or, length-drop}
 use borrow.Author.Tests.{le-leb, lt-leb}
 use Rattle.lists.proofs.Part.{tail_mid}
@@ -11,7 +11,7 @@ use Rattle.model.specs.Tolerance.{tolerance}
 use Rattle.recipe_bytes.specs.Bytes.{there}
 use Rattle.recipe_stages.specs.StageBytes.{stage_tests}
 use Rattle.recipe.specs.Recipe.{recipe_tests, recipe_stages, recipe_of}
-use Rattle.recipe.proofs.Chain.{left, stage-refused, stage-more, stages_long, stages_done}
+use Rattle.recipe.proofs.Chain.{stage-refused, stage-more, stages_long, stages_done}
 use borrow.Author.Rules.{rules}
 use Rattle.recipe.proofs.read_recipe.Goals as goal
 

@@ -1,17 +1,9 @@
 -- `recipe::read_recipe` meets its contract. Assumes nothing.
 use Prim.Native.Nat.{◌+◌, ◌-◌, ◌*◌, ◌≤◌}
-use native.Mathlib.Nat.{sub-zero}
-use native.Mathlib.Omega.{arith}
-use mathlib.Core.Path.{◌≡◌, refl, sym, ap, ◌∙◌}
-use lib.ListN.{length, get_or, length-drop}
-use borrow.Author.Tests.{le-leb, lt-leb}
-use Rattle.lists.proofs.Part.{tail_mid}
-use Rattle.refusals.specs.Refusal.{verdict}
-use Rattle.model.specs.Tolerance.{tolerance}
-use Rattle.recipe_bytes.specs.Bytes.{there}
-use Rattle.recipe_stages.specs.StageBytes.{stage_tests}
-use Rattle.recipe.specs.Recipe.{recipe_tests, recipe_stages, recipe_of}
-use Rattle.recipe.proofs.Chain.{left, stage-refused, stage-more, stages_long, stages_done}
+use mathlib.Core.Path.{◌≡◌}
+use lib.ListN.{length}
+use Rattle.recipe.specs.Recipe.{recipe_of}
+use Rattle.recipe.proofs.Chain.{left}
 use Rattle.recipe.proofs.read_recipe.Given as goal
 
 abbrev pub invariant-loop-k : goal.invariant-loop-k

@@ -1,14 +1,10 @@
 -- `room::sum_need` meets its contract: stage by stage. Assumes nothing.
 use Prim.Native.Nat.{◌-◌, max}
-use native.Mathlib.Nat.{sub-zero}
-use native.Mathlib.Omega.{arith}
-use mathlib.Core.Path.{◌≡◌, sym, ◌∙◌}
+use mathlib.Core.Path.{◌≡◌}
 use lib.ListN.{drop}
-use Rattle.lists.proofs.Part.{tail_mid}
 use Rattle.recipe.specs.Recipe.{stages_of, recipe_stages}
-use Rattle.recipe.proofs.Walk.{Walk, walk_start, walk_near, walk_tests, walk_more, walk_stages, walk_end}
+use Rattle.recipe.proofs.Walk.{Walk}
 use Rattle.table_sizes.specs.Needs.{sum_need}
-use Rattle.room.proofs.NeedLaws.{need_more, need_none}
 use Rattle.room.proofs.sum_need.Given as goal
 
 abbrev pub invariant-loop-k : goal.invariant-loop-k

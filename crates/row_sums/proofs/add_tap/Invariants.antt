@@ -1,12 +1,8 @@
 -- `row_sums::add_tap` meets its contract: what is stored so far, then what was there. Assumes nothing.
 use Prim.Native.Nat.{◌-◌}
-use mathlib.Core.Path.{◌≡◌, ◌∙◌}
 use lib.ListN.{get_or}
-use mir.Syntax.{w32}
-use mir.Val.{to_z, of_z}
-use mir.Facts.{to_z-of_z}
 use lib.IntN.{pos, ◌+ℤ◌, ◌*ℤ◌}
-use Rattle.lists.proofs.Stored.{Stored, stored_none, stored_more, stored_next, stored_done}
+use Rattle.lists.proofs.Stored.{Stored}
 use Rattle.row_sums.proofs.add_tap.Given as goal
 
 abbrev pub invariant-loop-u : goal.invariant-loop-u

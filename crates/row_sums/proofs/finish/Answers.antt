@@ -5,8 +5,7 @@ use lib.ListN.{get_or}
 use mir.Syntax.{w32}
 use mir.Val.{to_z, of_z}
 use lib.IntN.{pos}
-use Rattle.integers.specs.Divide.{floor_div}
-use Rattle.lists.proofs.Stored.{Stored, stored_none, stored_more, stored_next, stored_done}
+use Rattle.lists.proofs.Stored.{stored_none, stored_more, stored_next, stored_done}
 use borrow.Author.Rules.{rules}
 use Rattle.row_sums.proofs.finish.Goals as goal
 

@@ -1,11 +1,8 @@
 -- `running_sums::add_blocks` meets its contract: four entries a turn, in a place apart from the row above. Assumes nothing.
-use Rattle.std.proofs.Common.{◌≡◌, ℕ, ◌+◌, ◌-◌, ◌*◌, ◌%◌, ◌^◌, ◌<◌, ◌≤◌, length, get_or, take, drop, refl, ◌∙◌, add-zero, add_assoc, le_antisymm, zero-add, arith, length-drop, get_or-drop, rules}
-use native.Mathlib.Nat.{add-mod-mod}
+use Rattle.std.proofs.Common.{◌≡◌, ℕ, ◌+◌, ◌-◌, ◌*◌, ◌%◌, ◌^◌, ◌<◌, ◌≤◌, length, get_or, take}
 use Rattle.integers.specs.Sum.{sum}
-use Rattle.lists.proofs.Part.{tail_mid}
-use Rattle.lists.proofs.StoredAt.{stored, stored_none}
-use Rattle.running_sums.specs.Fours.{four_sum, lane}
-use Rattle.running_sums.proofs.Blocks.{stored_twice, above_kept, running_four}
+use Rattle.lists.proofs.StoredAt.{stored}
+use Rattle.running_sums.specs.Fours.{lane}
 use Rattle.running_sums.proofs.add_blocks.Given as goal
 
 abbrev pub invariant-loop-k : goal.invariant-loop-k

@@ -1,5 +1,5 @@
 -- `running_sums::add_rest` meets its contract: what is stored so far, in a place apart from the row above. Assumes nothing.
-use Rattle.std.proofs.Common.{◌≡◌, ℕ, ◌+◌, ◌-◌, ◌%◌, ◌^◌, ◌≤◌, length, get_or, take, sym, refl, ap, ◌∙◌, le_refl, add-zero, mod-eq_of_lt, le_antisymm, arith, length-set, rules}
+use Rattle.std.proofs.Common.{ℕ, ◌+◌, ◌-◌, ◌%◌, ◌^◌, take, sym, refl, ap, ◌∙◌, le_refl, add-zero, mod-eq_of_lt, le_antisymm, arith, length-set}
 use Rattle.integers.specs.Sum.{sum}
 use Rattle.lists.proofs.StoredAt.{stored, stored_none, stored_more}
 use Rattle.running_sums.proofs.Blocks.{above_kept, running_more, running_added}

@@ -1,8 +1,7 @@
 -- `running_sums::add_rest` meets its contract: what is stored so far, in a place apart from the row above. Assumes nothing.
-use Rattle.std.proofs.Common.{◌≡◌, ℕ, ◌+◌, ◌-◌, ◌%◌, ◌^◌, ◌≤◌, length, get_or, take, sym, refl, ap, ◌∙◌, le_refl, add-zero, mod-eq_of_lt, le_antisymm, arith, length-set, rules}
+use Rattle.std.proofs.Common.{◌≡◌, ◌+◌, ◌-◌, ◌%◌, ◌^◌, ◌≤◌, length, get_or, take}
 use Rattle.integers.specs.Sum.{sum}
-use Rattle.lists.proofs.StoredAt.{stored, stored_none, stored_more}
-use Rattle.running_sums.proofs.Blocks.{above_kept, running_more, running_added}
+use Rattle.lists.proofs.StoredAt.{stored}
 use Rattle.running_sums.proofs.add_rest.Given as goal
 
 abbrev pub invariant-loop-x : goal.invariant-loop-x

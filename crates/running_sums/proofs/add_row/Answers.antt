@@ -1,5 +1,5 @@
 -- `running_sums::add_row` meets its contract: the blocks of four, and what is left behind them. Assumes nothing.
-use Rattle.std.proofs.Common.{◌≡◌, ℕ, ◌+◌, ◌-◌, ◌*◌, ◌/◌, ◌≤◌, ◌⊎◌, inl, inr, ⊎_elim, add_assoc, arith, length-drop, rules}
+use Rattle.std.proofs.Common.{◌≡◌, ℕ, ◌+◌, ◌-◌, ◌*◌, ◌/◌, ◌≤◌, ◌⊎◌, inl, inr, ⊎_elim, add_assoc, arith, length-drop}
 use native.Mathlib.Nat.{mod-add-div}
 use Rattle.lists.proofs.Part.{tail_mid}
 use Rattle.lists.proofs.StoredAt.{stored}

@@ -1,5 +1,5 @@
 -- `running_sums::first_lanes` meets its contract. Assumes nothing.
-use Rattle.std.proofs.Common.{refl, arith, rules}
+use Rattle.std.proofs.Common.{refl, arith}
 use Rattle.running_sums.proofs.Blocks.{lanes_first}
 use Rattle.running_sums.proofs.first_lanes.Goals as goal
 

@@ -1,5 +1,5 @@
 -- `running_sums::four_sums` meets its contract: two pairs are four. Assumes nothing.
-use Rattle.std.proofs.Common.{◌≡◌, ℕ, ◌+◌, ◌<◌, get_or, ◌∙◌, arith, rules}
+use Rattle.std.proofs.Common.{◌≡◌, ℕ, ◌+◌, ◌∙◌, arith}
 use Rattle.lists.proofs.Tabulate.{filled_at}
 use Rattle.running_sums.specs.Fours.{four_sum}
 use Rattle.running_sums.proofs.four_sums.Goals as goal

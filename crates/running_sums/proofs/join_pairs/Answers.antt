@@ -1,6 +1,6 @@
 -- `running_sums::join_pairs` meets its contract: what is stored so far, then what was there: both that are read. Assumes nothing.
-use Rattle.std.proofs.Common.{◌+◌, ◌-◌, get_or, le_refl, arith, rules}
-use Rattle.lists.proofs.Stored.{Stored, stored_none, stored_more, stored_behind, stored_done}
+use Rattle.std.proofs.Common.{◌+◌, ◌-◌, le_refl, arith}
+use Rattle.lists.proofs.Stored.{stored_none, stored_more, stored_behind, stored_done}
 use Rattle.running_sums.proofs.join_pairs.Goals as goal
 
 pub loop-x-init : goal.loop-x-init

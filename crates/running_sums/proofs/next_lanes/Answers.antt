@@ -1,5 +1,5 @@
 -- `running_sums::next_lanes` meets its contract. Assumes nothing.
-use Rattle.std.proofs.Common.{arith, rules}
+use Rattle.std.proofs.Common.{arith}
 use Rattle.running_sums.proofs.Blocks.{lanes_added}
 use Rattle.running_sums.proofs.next_lanes.Goals as goal
 

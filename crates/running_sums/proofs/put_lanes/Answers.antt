@@ -1,5 +1,5 @@
 -- `running_sums::put_lanes` meets its contract. Assumes nothing.
-use Rattle.std.proofs.Common.{◌≡◌, ℕ, ◌+◌, ◌%◌, ◌^◌, get_or, add-zero, arith, length-set, rules}
+use Rattle.std.proofs.Common.{◌≡◌, ℕ, ◌+◌, ◌%◌, ◌^◌, get_or, add-zero, arith, length-set}
 use Rattle.lists.proofs.StoredAt.{stored}
 use Rattle.running_sums.specs.Fours.{lane}
 use Rattle.running_sums.proofs.Blocks.{four_stored}

@@ -1,10 +1,8 @@
 -- `small_rank_rows::first_rows` meets its contract: with each row one slot more holds its row, until all but the first do. Assumes nothing.
-use Prim.Native.Nat.{◌+◌, ◌*◌, ◌-◌, ◌≤◌}
-use native.Mathlib.Omega.{arith}
-use mathlib.Core.Path.{◌≡◌, refl, ◌∙◌}
+use Prim.Native.Nat.{◌+◌, ◌-◌, ◌≤◌}
+use mathlib.Core.Path.{◌≡◌}
 use lib.ListN.{length}
 use Rattle.small_ranks.specs.HeldRows.{HeldRows}
-use Rattle.small_rank_rows.proofs.Rows.{held_none}
 use Rattle.small_rank_rows.proofs.first_rows.Given as goal
 
 abbrev pub invariant-loop-y : goal.invariant-loop-y

@@ -1,8 +1,7 @@
 -- `small_ranks::move_up` meets its contract: what is stored so far, then what was there. Assumes nothing.
-use Prim.Native.Nat.{◌+◌, ◌-◌}
+use Prim.Native.Nat.{◌-◌}
 use native.Mathlib.Omega.{arith}
-use lib.ListN.{get_or}
-use Rattle.lists.proofs.Stored.{Stored, stored_none, stored_more, stored_done, stored_behind}
+use Rattle.lists.proofs.Stored.{stored_none, stored_more, stored_done, stored_behind}
 use Rattle.small_ranks.proofs.move_up.Goals as goal
 
 pub loop-i-init : goal.loop-i-init

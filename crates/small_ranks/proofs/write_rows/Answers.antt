@@ -7,13 +7,10 @@ use lib.ListN.{length, length-drop}
 use lib.Seq.{take_at}
 use Rattle.lists.proofs.Part.{tail_mid}
 use Rattle.lists.proofs.Raster.{length-raster}
-use Rattle.lists.proofs.Stored.{StoredRows, rows_stored_none, rows_stored_done, row_room}
+use Rattle.lists.proofs.Stored.{rows_stored_none, rows_stored_done, row_room}
 use Rattle.model.specs.Window.{area}
-use Rattle.model.specs.Rank.{rank_result}
-use Rattle.frame.specs.Framed.{neighbours, worked}
+use Rattle.frame.specs.Framed.{worked}
 use Rattle.kept_planes.proofs.Planes.{plane_behind, plane_small, kept_same}
-use Rattle.kept_planes.specs.HeldRow.{kept}
-use Rattle.small_ranks.specs.HeldRows.{HeldRows}
 use Rattle.small_ranks.proofs.Rows.{held_none, held_next, results_stored}
 use Rattle.small_ranks.proofs.write_rows.Goals as goal
 

@@ -1,20 +1,12 @@
 -- `small_ranks::write_rows` meets its contract: row by row, with the rows of its windows in hand. The kept plane is as it was. Assumes nothing.
-use Prim.Native.Nat.{ℕ, ◌+◌, ◌*◌, ◌-◌, ◌≤◌, ◌<◌}
-use native.Mathlib.Nat.{le_refl}
-use native.Mathlib.Omega.{arith}
-use mathlib.Core.Path.{◌≡◌, refl, ◌∙◌}
-use lib.ListN.{length, length-drop}
-use lib.Seq.{take_at}
-use Rattle.lists.proofs.Part.{tail_mid}
-use Rattle.lists.proofs.Raster.{length-raster}
-use Rattle.lists.proofs.Stored.{StoredRows, rows_stored_none, rows_stored_done, row_room}
-use Rattle.model.specs.Window.{area}
+use Prim.Native.Nat.{◌+◌, ◌-◌}
+use mathlib.Core.Path.{◌≡◌}
+use lib.ListN.{length}
+use Rattle.lists.proofs.Stored.{StoredRows}
 use Rattle.model.specs.Rank.{rank_result}
-use Rattle.frame.specs.Framed.{neighbours, worked}
-use Rattle.kept_planes.proofs.Planes.{plane_behind, plane_small, kept_same}
+use Rattle.frame.specs.Framed.{neighbours}
 use Rattle.kept_planes.specs.HeldRow.{kept}
 use Rattle.small_ranks.specs.HeldRows.{HeldRows}
-use Rattle.small_ranks.proofs.Rows.{held_none, held_next, results_stored}
 use Rattle.small_ranks.proofs.write_rows.Given as goal
 
 abbrev pub invariant-loop-y : goal.invariant-loop-y

@@ -1,14 +1,10 @@
 -- `spare_units::ahead` meets its contract: the count so far. Assumes nothing.
 use Prim.Native.Nat.{ℕ, ◌-◌, ◌≤◌}
-use native.Mathlib.Nat.{le_antisymm}
-use native.Mathlib.Omega.{arith}
-use mathlib.Core.Path.{◌≡◌, sym, ap, ◌∙◌}
-use mathlib.Core.Bool.{Bool, cond}
+use mathlib.Core.Path.{◌≡◌}
 use lib.ListN.{get_or}
 use Rattle.lists.specs.Tabulate.{tabulate}
 use Rattle.lists.specs.Count.{count}
 use Rattle.unit_order.specs.Order.{before}
-use Rattle.lists.proofs.Sums.{count-more, count_none}
 use Rattle.spare_units.proofs.ahead.Given as goal
 
 abbrev pub invariant-loop-j : goal.invariant-loop-j

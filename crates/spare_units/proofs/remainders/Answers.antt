@@ -1,15 +1,12 @@
 -- `spare_units::remainders` meets its contract: the remainders and their count so far. Assumes nothing.
-use Prim.Native.Nat.{ℕ, ◌-◌, ◌+◌, ◌*◌, ◌%◌, ◌≤◌}
+use Prim.Native.Nat.{ℕ, ◌-◌, ◌*◌, ◌%◌}
 use native.Mathlib.Nat.{le_antisymm}
 use native.Mathlib.Omega.{arith}
 use mathlib.Core.Path.{◌≡◌, refl, sym, ap, ◌∙◌}
 use mathlib.Core.Bool.{cond}
-use mathlib.Core.List.{◌++◌}
 use lib.Dec.{ltb}
-use lib.ListN.{length, get_or, drop, length-set}
+use lib.ListN.{get_or, length-set}
 use lib.IntN.{ℤ, pos, ◌*ℤ◌}
-use Rattle.lists.specs.Tabulate.{tabulate}
-use Rattle.lists.specs.Count.{count}
 use Rattle.lists.proofs.Tabulate.{fill_none, fill_more, filled_front}
 use Rattle.lists.proofs.Sums.{count-more, count_none}
 use Rattle.numerators.specs.Numerator.{numerator_of, remainder_of}

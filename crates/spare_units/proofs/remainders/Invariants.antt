@@ -1,19 +1,12 @@
 -- `spare_units::remainders` meets its contract: the remainders and their count so far. Assumes nothing.
-use Prim.Native.Nat.{ℕ, ◌-◌, ◌+◌, ◌*◌, ◌%◌, ◌≤◌}
-use native.Mathlib.Nat.{le_antisymm}
-use native.Mathlib.Omega.{arith}
-use mathlib.Core.Path.{◌≡◌, refl, sym, ap, ◌∙◌}
-use mathlib.Core.Bool.{cond}
+use Prim.Native.Nat.{ℕ, ◌-◌, ◌+◌, ◌≤◌}
+use mathlib.Core.Path.{◌≡◌}
 use mathlib.Core.List.{◌++◌}
 use lib.Dec.{ltb}
-use lib.ListN.{length, get_or, drop, length-set}
-use lib.IntN.{ℤ, pos, ◌*ℤ◌}
+use lib.ListN.{length, get_or, drop}
 use Rattle.lists.specs.Tabulate.{tabulate}
 use Rattle.lists.specs.Count.{count}
-use Rattle.lists.proofs.Tabulate.{fill_none, fill_more, filled_front}
-use Rattle.lists.proofs.Sums.{count-more, count_none}
-use Rattle.numerators.specs.Numerator.{numerator_of, remainder_of}
-use Rattle.numerators.proofs.Biased.{modulo_biased}
+use Rattle.numerators.specs.Numerator.{remainder_of}
 use Rattle.spare_units.proofs.remainders.Given as goal
 
 abbrev pub invariant-loop-i : goal.invariant-loop-i

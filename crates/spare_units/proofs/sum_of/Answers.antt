@@ -1,10 +1,9 @@
 -- `spare_units::sum_of` meets its contract: the sum so far. Assumes nothing.
-use Prim.Native.Nat.{ℕ, ◌-◌, ◌≤◌}
+use Prim.Native.Nat.{ℕ, ◌-◌}
 use native.Mathlib.Nat.{le_antisymm}
 use native.Mathlib.Omega.{arith}
-use mathlib.Core.Path.{◌≡◌, sym}
+use mathlib.Core.Path.{sym}
 use lib.ListN.{get_or}
-use Rattle.lists.specs.Tabulate.{tabulate}
 use Rattle.lists.proofs.Sums.{sum_more, sum-none, sum_bound}
 use Rattle.spare_units.proofs.sum_of.Goals as goal
 

@@ -1,14 +1,11 @@
 -- `stages::run_stages` meets its contract: stage by stage. Assumes nothing.
-use Prim.Native.Nat.{◌*◌, ◌-◌, ◌≤◌}
+use Prim.Native.Nat.{◌-◌}
 use native.Mathlib.Nat.{sub-zero}
 use native.Mathlib.Omega.{arith}
-use mathlib.Core.Path.{◌≡◌, refl, sym, ◌∙◌}
-use lib.ListN.{length, drop, take}
+use mathlib.Core.Path.{refl, sym, ◌∙◌}
 use Rattle.lists.proofs.Part.{tail_mid}
-use Rattle.model.specs.Stage.{written}
-use Rattle.recipe.specs.Recipe.{stages_of, recipe_stages}
-use Rattle.recipe.proofs.Walk.{Walk, walk_start, walk_near, walk_tests, walk_more, walk_stages, walk_end}
-use Rattle.table_sizes.specs.Needs.{sum_need}
+use Rattle.recipe.specs.Recipe.{recipe_stages}
+use Rattle.recipe.proofs.Walk.{walk_start, walk_near, walk_tests, walk_more, walk_stages, walk_end}
 use Rattle.stages.proofs.ChainLaws.{chain_none, chain_more, first_fits, rest_fit}
 use Rattle.stages.proofs.run_stages.Goals as goal
 

@@ -7,4 +7,4 @@ pub returns : goal.returns
 returns c =
     let a = c.args in
     let h = c.put_header-start.ensures in
-    raster_behind (header_bytes a.width a.height a.channels) a.raster.now a.out.now c.put_header-start.new.height.1.1.0 _ _ h.0 h.1 c.copy_front.ensures
+    raster_behind (header_bytes a.width a.height a.channels) a.raster.now a.out.now c.put_header-start.new.out _ _ h.0 h.1 c.copy_front.ensures

@@ -1,6 +1,5 @@
 -- `table_sizes::next_start` meets its contract: whether the ring ends is asked of entries, and shown of rows. Assumes nothing.
 use native.Mathlib.Omega.{arith}
-use mathlib.Core.Path.{◌≡◌, sym, ◌∙◌}
 use Rattle.table_sizes.specs.Ring.{table_width, ring_rows}
 use Rattle.table_sizes.proofs.Places.{place_behind, place_front, place_inside}
 use Rattle.table_sizes.proofs.Tables.{ring_small}

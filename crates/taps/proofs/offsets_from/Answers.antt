@@ -1,12 +1,9 @@
 -- `taps::offsets_from` meets its contract. Assumes nothing.
-use Prim.Native.Nat.{ℕ, ◌+◌, ◌-◌, ◌≤◌}
+use Prim.Native.Nat.{◌-◌}
 use native.Mathlib.Omega.{arith}
-use mathlib.Core.Path.{◌≡◌, refl, sym}
-use mathlib.Core.List.{◌++◌}
-use lib.ListN.{length, drop, length-set}
-use Rattle.lists.specs.Tabulate.{tabulate}
+use mathlib.Core.Path.{refl, sym}
+use lib.ListN.{length-set}
 use Rattle.lists.proofs.Tabulate.{fill_none, fill_more, filled_front}
-use Rattle.recipe_bytes.specs.Bytes.{at}
 use Rattle.taps.specs.Held.{held_offset}
 use Rattle.taps.proofs.offsets_from.Goals as goal
 

@@ -1,11 +1,9 @@
 -- `taps::offsets_from` meets its contract. Assumes nothing.
 use Prim.Native.Nat.{ℕ, ◌+◌, ◌-◌, ◌≤◌}
-use native.Mathlib.Omega.{arith}
-use mathlib.Core.Path.{◌≡◌, refl, sym}
+use mathlib.Core.Path.{◌≡◌}
 use mathlib.Core.List.{◌++◌}
-use lib.ListN.{length, drop, length-set}
+use lib.ListN.{length, drop}
 use Rattle.lists.specs.Tabulate.{tabulate}
-use Rattle.lists.proofs.Tabulate.{fill_none, fill_more, filled_front}
 use Rattle.recipe_bytes.specs.Bytes.{at}
 use Rattle.taps.specs.Held.{held_offset}
 use Rattle.taps.proofs.offsets_from.Given as goal

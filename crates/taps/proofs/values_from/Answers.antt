@@ -2,12 +2,9 @@
 use Prim.Native.Nat.{ℕ, ◌+◌, ◌-◌, ◌*◌, ◌≤◌}
 use native.Mathlib.Nat.{mul-le-mul}
 use native.Mathlib.Omega.{arith}
-use mathlib.Core.Path.{◌≡◌, refl, sym, ap, ◌∙◌}
-use mathlib.Core.List.{◌++◌}
-use lib.ListN.{length, drop, length-set}
-use Rattle.lists.specs.Tabulate.{tabulate}
+use mathlib.Core.Path.{refl, sym, ap, ◌∙◌}
+use lib.ListN.{length, length-set}
 use Rattle.lists.proofs.Tabulate.{fill_none, fill_more, filled_front}
-use Rattle.axis_fields.specs.AxisFields.{weight_length}
 use Rattle.taps.specs.TapBytes.{numerator_at}
 use Rattle.taps.specs.Held.{held_numerator}
 use Rattle.axis_fields.proofs.SizeLaws.{length_small}

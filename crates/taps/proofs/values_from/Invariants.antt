@@ -1,17 +1,12 @@
 -- `taps::values_from` meets its contract. Assumes nothing.
 use Prim.Native.Nat.{ℕ, ◌+◌, ◌-◌, ◌*◌, ◌≤◌}
-use native.Mathlib.Nat.{mul-le-mul}
-use native.Mathlib.Omega.{arith}
-use mathlib.Core.Path.{◌≡◌, refl, sym, ap, ◌∙◌}
+use mathlib.Core.Path.{◌≡◌}
 use mathlib.Core.List.{◌++◌}
-use lib.ListN.{length, drop, length-set}
+use lib.ListN.{length, drop}
 use Rattle.lists.specs.Tabulate.{tabulate}
-use Rattle.lists.proofs.Tabulate.{fill_none, fill_more, filled_front}
 use Rattle.axis_fields.specs.AxisFields.{weight_length}
 use Rattle.taps.specs.TapBytes.{numerator_at}
 use Rattle.taps.specs.Held.{held_numerator}
-use Rattle.axis_fields.proofs.SizeLaws.{length_small}
-use Rattle.taps.proofs.Numerators.{place_there}
 use Rattle.taps.proofs.values_from.Given as goal
 
 abbrev pub invariant-loop-i : goal.invariant-loop-i

@@ -11,7 +11,6 @@ use borrow.Author.Tests.{not-true, not-false}
 use Rattle.lists.proofs.Tabulate.{length-tabulate}
 use Rattle.channels.specs.Channel.{channel}
 use Rattle.recipe.specs.Recipe.{recipe_stages}
-use Rattle.near_rows.specs.Everywhere.{everywhere}
 use Rattle.near_rows.specs.Places.{Inside}
 use Rattle.near_rows.proofs.EverywhereLaws.{everywhere-none, everywhere-more, everywhere_fails}
 use Rattle.verdict_answers.specs.VerdictAnswer.{all_near}

@@ -2,15 +2,14 @@
 use Prim.Native.Nat.{ℕ, ◌+◌, ◌*◌, ◌-◌, ◌≤◌, ◌<◌}
 use native.Mathlib.Nat.{mul-le-mul}
 use native.Mathlib.Omega.{arith}
-use mathlib.Core.Path.{◌≡◌, refl, sym, ap, ◌∙◌}
+use mathlib.Core.Path.{refl, sym, ap, ◌∙◌}
 use mathlib.Core.List.{List, ◌++◌}
 use lib.ListN.{length, drop, take, length-drop}
 use lib.IntN.{ℤ}
 use Rattle.lists.proofs.Part.{tail_mid}
 use Rattle.lists.proofs.Tabulate.{length_filled}
-use Rattle.lists.proofs.Stored.{StoredRows, rows_stored_none, rows_stored_more, rows_stored_done, row_room}
+use Rattle.lists.proofs.Stored.{rows_stored_none, rows_stored_more, rows_stored_done, row_room}
 use Rattle.frame.specs.Padded.{padded}
-use Rattle.tap_sums.specs.HeldSums.{held_row}
 use Rattle.tap_sums.proofs.PartialSums.{row-supplied}
 use Rattle.weighted.proofs.all_rows.Goals as goal
 

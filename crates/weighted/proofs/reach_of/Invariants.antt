@@ -1,10 +1,6 @@
 -- `weighted::reach_of` meets its contract: what the offsets so far reach. Assumes nothing.
-use Prim.Native.Nat.{ℕ, ◌-◌, ◌≤◌}
-use native.Mathlib.Nat.{le_antisymm}
-use native.Mathlib.Omega.{arith}
-use mathlib.Core.Path.{subst}
+use Prim.Native.Nat.{◌-◌, ◌≤◌}
 use Rattle.tap_sums.specs.HeldSums.{Reaches}
-use Rattle.weighted.proofs.Reaching.{reaches_none, reaches_more}
 use Rattle.weighted.proofs.reach_of.Given as goal
 
 abbrev pub invariant-loop-k : goal.invariant-loop-k

@@ -1,12 +1,11 @@
 -- `weighted_columns::finish` meets its contract: what is stored so far, then what was there. Assumes nothing.
-use Prim.Native.Nat.{◌-◌, ◌^◌}
+use Prim.Native.Nat.{◌-◌}
 use mathlib.Core.Path.{◌≡◌, ◌∙◌}
 use lib.ListN.{get_or}
 use mir.Syntax.{w64}
 use mir.Val.{to_z, of_z}
 use lib.IntN.{pos}
-use Rattle.integers.specs.Divide.{floor_div, clamp}
-use Rattle.lists.proofs.Stored.{Stored, stored_none, stored_more, stored_done}
+use Rattle.lists.proofs.Stored.{stored_none, stored_more, stored_done}
 use borrow.Author.Rules.{rules}
 use Rattle.weighted_columns.proofs.finish.Goals as goal
 

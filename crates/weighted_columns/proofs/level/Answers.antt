@@ -4,11 +4,11 @@ use native.Mathlib.Omega.{arith}
 use mathlib.Core.Path.{◌≡◌, refl, sym, ◌∙◌}
 use lib.IntN.{ℤ, pos, negsuc}
 use lib.Signed.{shr_z}
-use mir.Syntax.{w8, w64}
+use mir.Syntax.{w64}
 use mir.Val.{of_z, to_z, SFits}
 use Rattle.integers.specs.Divide.{clamp}
 use Rattle.integers.proofs.Parts.{pos_part, neg_part}
-use Rattle.integers.proofs.Registers.{Bits, of-bits, nat_bits, shr_bits, lt-true, lt-false, nat_cast_fits, nat_cast_is}
+use Rattle.integers.proofs.Registers.{Bits, of-bits, nat_bits, shr_bits, lt-true, lt-false, nat_cast_is}
 use Rattle.weighted_columns.proofs.level.Goals as goal
 
 clamp-is : (z : ℤ) → clamp 255 z ≡ min (pos_part z) 255

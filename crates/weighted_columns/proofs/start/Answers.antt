@@ -1,8 +1,7 @@
 -- `weighted_columns::start` meets its contract: what is stored so far, then what was there. Assumes nothing.
-use Prim.Native.Nat.{ℕ, ◌-◌}
+use Prim.Native.Nat.{◌-◌}
 use mathlib.Core.Path.{refl}
-use lib.IntN.{pos}
-use Rattle.lists.proofs.Stored.{Stored, stored_none, stored_more, stored_done}
+use Rattle.lists.proofs.Stored.{stored_none, stored_more, stored_done}
 use Rattle.weighted_columns.proofs.start.Goals as goal
 
 pub loop-u-init : goal.loop-u-init

@@ -1,19 +1,11 @@
 -- `weighted_rows::row_values` meets its contract: tap by tap. Assumes nothing.
 use Prim.Native.Nat.{ℕ, ◌+◌, ◌-◌, ◌≤◌}
-use native.Mathlib.Nat.{le_antisymm}
-use native.Mathlib.Omega.{arith}
-use mathlib.Core.Path.{◌≡◌, refl, ap, ◌∙◌}
+use mathlib.Core.Path.{◌≡◌}
 use mathlib.Core.List.{List, ◌++◌}
-use mir.Syntax.{w32}
-use mir.Val.{to_z, of_z}
-use lib.ListN.{length, get_or, drop, length-drop}
+use lib.ListN.{length, get_or, drop}
 use lib.IntN.{ℤ, pos}
 use Rattle.lists.specs.Tabulate.{tabulate}
-use Rattle.lists.proofs.Part.{tail_mid}
-use Rattle.lists.proofs.Tabulate.{length_filled, filled_behind, filled_at, refill}
-use Rattle.tap_sums.specs.HeldSums.{held_sum, row_of}
-use Rattle.tap_sums.proofs.SumLaws.{weight_size}
-use Rattle.tap_sums.proofs.PartialSums.{partial, partial_more, partial_size, shifted}
+use Rattle.tap_sums.proofs.PartialSums.{partial}
 use Rattle.weighted_rows.proofs.row_values.Given as goal
 
 -- what stands at held offset o from column u

@@ -2,12 +2,10 @@
 use Prim.Native.Nat.{◌-◌}
 use native.Mathlib.Omega.{arith}
 use mathlib.Core.Path.{◌≡◌, refl, sym, ◌∙◌}
-use lib.ListN.{length, get_or}
 use mir.Syntax.{w32}
 use mir.Val.{to_z, of_z}
 use Rattle.lists.proofs.Tabulate.{filled_front}
-use Rattle.lists.proofs.Stored.{Stored, stored_none, stored_more}
-use Rattle.numerators.specs.Numerator.{numerator_of}
+use Rattle.lists.proofs.Stored.{stored_none, stored_more}
 use borrow.Author.Rules.{rules}
 use Rattle.whole_taps.proofs.numerators.Goals as goal
 

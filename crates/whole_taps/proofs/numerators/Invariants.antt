@@ -1,12 +1,8 @@
 -- `whole_taps::numerators` meets its contract: what is stored so far, then what was there. Assumes nothing.
 use Prim.Native.Nat.{◌-◌}
-use native.Mathlib.Omega.{arith}
-use mathlib.Core.Path.{◌≡◌, refl, sym, ◌∙◌}
+use mathlib.Core.Path.{◌≡◌}
 use lib.ListN.{length, get_or}
-use mir.Syntax.{w32}
-use mir.Val.{to_z, of_z}
-use Rattle.lists.proofs.Tabulate.{filled_front}
-use Rattle.lists.proofs.Stored.{Stored, stored_none, stored_more}
+use Rattle.lists.proofs.Stored.{Stored}
 use Rattle.numerators.specs.Numerator.{numerator_of}
 use Rattle.whole_taps.proofs.numerators.Given as goal
 

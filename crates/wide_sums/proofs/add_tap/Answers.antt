@@ -5,8 +5,8 @@ use lib.ListN.{get_or}
 use mir.Syntax.{w32, w64}
 use mir.Val.{to_z, of_z}
 use mir.Facts.{to_z-of_z}
-use lib.IntN.{pos, ◌+ℤ◌, ◌*ℤ◌}
-use Rattle.lists.proofs.Stored.{Stored, stored_none, stored_more, stored_next, stored_done}
+use lib.IntN.{pos}
+use Rattle.lists.proofs.Stored.{stored_none, stored_more, stored_next, stored_done}
 use borrow.Author.Rules.{rules}
 use Rattle.wide_sums.proofs.add_tap.Goals as goal
 

@@ -1,10 +1,8 @@
 -- `wide_sums::start` meets its contract: what is stored so far, then what was there. Assumes nothing.
-use Prim.Native.Nat.{ℕ, ◌-◌}
+use Prim.Native.Nat.{◌-◌}
 use mathlib.Core.Path.{refl}
-use mir.Syntax.{w64}
-use mir.Val.{to_z}
 use mir.Facts.{to_z-of_z}
-use Rattle.lists.proofs.Stored.{Stored, stored_none, stored_more, stored_done}
+use Rattle.lists.proofs.Stored.{stored_none, stored_more, stored_done}
 use Rattle.wide_sums.proofs.start.Goals as goal
 
 pub loop-u-init : goal.loop-u-init

@@ -1,10 +1,8 @@
 -- `window_columns::count_window` meets its contract: the columns so far. Assumes nothing.
-use Prim.Native.Nat.{◌-◌, ◌≤◌}
 use native.Mathlib.Nat.{le_antisymm}
 use native.Mathlib.Omega.{arith}
-use mathlib.Core.Path.{◌≡◌, sym, ◌∙◌}
-use Rattle.histograms.specs.Histogram.{histogram}
-use Rattle.window_columns.specs.Columns.{column_in, side_by_side}
+use mathlib.Core.Path.{sym, ◌∙◌}
+use Rattle.window_columns.specs.Columns.{column_in}
 use Rattle.histograms.proofs.Counts.{length-histogram}
 use Rattle.window_columns.proofs.Slide.{no_column, column-more, count_few}
 use Rattle.window_columns.proofs.Placed.{length-column}

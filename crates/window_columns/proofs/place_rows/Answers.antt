@@ -1,12 +1,11 @@
 -- `window_columns::place_rows` meets its contract: the starts so far. Assumes nothing.
-use Prim.Native.Nat.{◌+◌, ◌-◌, ◌≤◌}
+use Prim.Native.Nat.{◌+◌, ◌≤◌}
 use native.Mathlib.Nat.{le_antisymm, le_trans, mul-le-mul}
 use native.Mathlib.Omega.{arith}
-use mathlib.Core.Path.{◌≡◌, refl}
-use lib.ListN.{length, take, length-set}
+use mathlib.Core.Path.{refl}
+use lib.ListN.{length-set}
 use Rattle.places.proofs.PlaceLaws.{place_some, place_none}
 use Rattle.model_laws.proofs.Border.{supply-inside}
-use Rattle.window_columns.specs.Rows.{row_starts}
 use Rattle.window_columns.proofs.Placed.{starts_none, start_more, start_none, row-le}
 use Rattle.window_columns.proofs.place_rows.Goals as goal
 

@@ -1,7 +1,6 @@
 -- `window_means::row_of_means` meets its contract: the row after the lower edge is the upper one. Assumes nothing.
-use Prim.Native.Nat.{ℕ, ◌+◌, ◌*◌}
+use Prim.Native.Nat.{◌+◌, ◌*◌}
 use native.Mathlib.Omega.{arith}
-use mathlib.Core.Path.{◌≡◌}
 use lib.ListN.{length-drop}
 use Rattle.lists.proofs.Part.{tail_mid}
 use Rattle.model.specs.Window as Model
