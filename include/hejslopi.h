@@ -1,7 +1,7 @@
 /* Hejslopi: Netpbm stills (P5, P6) filtered by a recipe, the movement between two of them, a verdict on one that was
  * filtered elsewhere, and the mean of many. The interface for C (from C99) and C++ (from C++11).
  *
- * Link with target/staticlib/libcapi.a, which `rt staticlib capi` proves and builds (x86-64 Linux). It needs memcpy and
+ * Link with target/staticlib/libcapi.a, which `tools/build library` proves and builds (x86-64 Linux). It needs memcpy and
  * memset and nothing else of the C library.
  *
  * Every call returns 0 when it is done, or the number of a refusal. The first test that fails decides.

@@ -1,4 +1,4 @@
-//! Links libcapi.a: from the folder that HEJSLOPI_LIB_DIR names, else as `rt staticlib capi` proves and builds it.
+//! Links libcapi.a: from the folder that HEJSLOPI_LIB_DIR names, else as `tools/build library` proves and builds it.
 //! What is linked is a copy in cargo's own folder, so nothing depends on where it came from once this has run.
 use std::path::{Path, PathBuf};
 use std::process::{Command, ExitCode, Output};
@@ -53,23 +53,48 @@ fn given(folder: &Path) -> Result<PathBuf, String> {
     Ok(library)
 }
 
-/// The library as `rt` builds it. What it is made from is watched, and nothing that is made: else this would run each time.
+/// The library as `tools/build` makes it. What it is made from is watched, and nothing that is made: else this would run each time.
 fn built(repository: &Path) -> Result<PathBuf, String> {
-    watch(&repository.join("crates"));
     watch(&repository.join("crates.txt"));
-    let run = Command::new("rt")
-        .args(["staticlib", "capi"])
+    let build = repository.join("tools").join("build");
+    watch(&build);
+    watch_sources(&repository.join("crates"))?;
+    let or = format!("name the folder of {LIBRARY} in HEJSLOPI_LIB_DIR");
+    let run = Command::new(&build)
+        .arg("library")
         .current_dir(repository)
         .output()
-        .map_err(|e| format!("rt cannot be run ({e}): put it on the path, or name the folder of {LIBRARY} in HEJSLOPI_LIB_DIR"))?;
+        .map_err(|e| format!("{} cannot be run ({e}): {or}", build.display()))?;
+    // what a shell answers where there is no such command
+    if run.status.code() == Some(127) {
+        let said = telling(&run);
+        return Err(format!(
+            "rt cannot be run ({said}): put it on the path, or {or}"
+        ));
+    }
     if !run.status.success() {
         return Err(format!(
-            "rt staticlib capi: {}: {}",
+            "tools/build library: {}: {}",
             run.status,
             telling(&run)
         ));
     }
     Ok(repository.join("target").join("staticlib").join(LIBRARY))
+}
+
+/// Watches what the crates are made from. Beside it a crate has what `rt` leaves there.
+fn watch_sources(crates: &Path) -> Result<(), String> {
+    let unread = |e| format!("{} cannot be read: {e}", crates.display());
+    for entry in fs::read_dir(crates).map_err(unread)? {
+        let folder = entry.map_err(unread)?.path();
+        for part in ["src", "specs", "proofs"] {
+            let part = folder.join(part);
+            if part.is_dir() {
+                watch(&part);
+            }
+        }
+    }
+    Ok(())
 }
 
 /// Has this run again once a path changes, or a file under it.

@@ -460,7 +460,7 @@ def library_missing(tally):
         empty, archive = os.path.join(room, "empty"), os.path.join(room, "archive")
         os.mkdir(empty)
         os.mkdir(archive)
-        one_line(tally, "no library", run(["explain", "recipe"], room, HEJSLOPI_LIB_DIR=empty), 2, "no library at", "rt staticlib capi", "HEJSLOPI_LIB_DIR")
+        one_line(tally, "no library", run(["explain", "recipe"], room, HEJSLOPI_LIB_DIR=empty), 2, "no library at", "tools/build library", "HEJSLOPI_LIB_DIR")
         shutil.copy(os.path.join("target", "staticlib", "libcapi.a"), archive)
         one_line(tally, "no compiler", run(["explain", "recipe"], room, HEJSLOPI_LIB_DIR=archive, PATH=empty), 2, "the C compiler cc is not to be found")
         answer = run(["explain", "recipe"], room, HEJSLOPI_LIB_DIR=archive)

@@ -1,5 +1,6 @@
 """Builds what is to be tried, runs each group of tests and says how many passed. `./test` says what it is for."""
 import os
+import re
 import signal
 import subprocess
 import sys
@@ -25,7 +26,7 @@ GROUPS = {
     "readme": ("README's examples", readme.try_readme),
     "python": ("python/test_hejslopi.py", suites.python),
     "wordings": ("the meaning of each refusal, wherever it is said", wordings.try_wordings),
-    "tools": ("tools/expected, rt fmt", scripts.try_tools),
+    "tools": ("tools/expected; the gate holds the layout of the sources", scripts.try_tools),
     "cargo": ("how the Rust package finds its library", cargo_build.try_build),
     "rust": ("cargo test", suites.rust),
 }
@@ -51,7 +52,8 @@ def seconds_since(began):
 
 def build(tally):
     """Proves and builds the program and the library. Without them there is nothing to try."""
-    for name, command in (("program", ["rt", "check", "hejslopi"]), ("library", ["rt", "staticlib", "capi"])):
+    for name in ("program", "library"):
+        command = [os.path.join("tools", "build"), name]
         status, text = suites.logged(name, command)
         if status != 0:
             tally.fails(" ".join(command), suites.telling(text), Words("a proof; target/test/%s.log has the whole" % name))
@@ -60,14 +62,14 @@ def build(tally):
 
 
 def tree():
-    """What git says of the tree, and of files that it is told to ignore, apart from the two folders for what is built. None where git cannot say."""
+    """What git says of the tree, and of files that it is told to ignore, apart from the folders for what is built. None where git cannot say."""
     try:
         done = subprocess.run(["git", "status", "--porcelain", "--ignored"], stdout=subprocess.PIPE, stderr=subprocess.DEVNULL, universal_newlines=True)
     except OSError:
         return None
     if done.returncode != 0:
         return None
-    return [line for line in done.stdout.splitlines() if line[3:] not in ("target/", "rust/target/")]
+    return [line for line in done.stdout.splitlines() if not re.fullmatch(r"target/|rust/target/|crates/\w+/out/", line[3:])]
 
 
 def try_group(total, name):

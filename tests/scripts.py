@@ -1,4 +1,4 @@
-"""The tools around the program, and the layout of the sources."""
+"""The tools around the program."""
 import os
 import shutil
 import subprocess
@@ -41,12 +41,5 @@ def expected_again(tally):
             tally.judge(where, stopped or folders.apart(made, kept))
 
 
-def layout(tally):
-    """The gate does not ask for the layout of the sources, and readers do."""
-    status, text = suites.logged("fmt", ["rt", "fmt", "--check"])
-    tally.equal("rt fmt --check", suites.telling(text) if status else 0, 0)
-
-
 def try_tools(tally):
     expected_again(tally)
-    layout(tally)

@@ -19,9 +19,9 @@ def logged(name, command, **changed):
 
 
 def telling(text):
-    """The line that says most: the first that names an error, else the last."""
+    """The line that says most: the first that names an error, alone or behind the place of a file, else the last."""
     lines = text.strip().splitlines() or ["nothing"]
-    return Words(next((line for line in lines if line.startswith("error")), lines[-1]))
+    return Words(next((line for line in lines if re.match(r"(\S+:\d+:\d+: )?error", line)), lines[-1]))
 
 
 def record(tally, name, status, text, count, names):

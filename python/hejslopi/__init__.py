@@ -8,7 +8,7 @@ Eleven calls: `read_still`, `write_still`, `read_recipe`, `needs`, `filter_plane
 `Background`, which keeps stills and gives their mean. One that cannot be done raises `Refusal`, with the number in `.number` and its meaning as the text. `recipe` makes a recipe's bytes of a
 description, `describe` the reverse, `explain` says what a recipe does, and `movement_picture` shows where something has moved.
 
-The library is made once by `rt staticlib capi` at the top of the repository, and this package makes a shared object of it with the machine's cc, beside
+The library is made once by `tools/build library` at the top of the repository, and this package makes a shared object of it with the machine's cc, beside
 it. HEJSLOPI_LIB_DIR may name another folder of libcapi.a.
 """
 from .background import Background, Mean

@@ -48,7 +48,7 @@ def link(archive: str, shared: str) -> None:
 
 
 def missing(archive: str) -> str:
-    return "no library at %s: run `rt staticlib capi` at the top of the repository, or name the folder of %s in HEJSLOPI_LIB_DIR" % (archive, ARCHIVE)
+    return "no library at %s: run `tools/build library` at the top of the repository, or name the folder of %s in HEJSLOPI_LIB_DIR" % (archive, ARCHIVE)
 
 
 def shared_object() -> str:

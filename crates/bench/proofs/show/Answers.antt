@@ -6,9 +6,9 @@ use Rattle.recipe_kernels.proofs.GainLaws.{taps_part, axis_limits}
 use Rattle.bench.proofs.show.Goals as goal
 
 pub kernel_on-requires : goal.kernel_on-requires
-kernel_on-requires c =
+kernel_on-requires g c =
     (omega arith, taps_part false c.args.part.now (sym c.tests.ensures ∙ c.in-Passed.is))
 
 pub axis_of-axis-requires : goal.axis_of-axis-requires
-axis_of-axis-requires c =
+axis_of-axis-requires g c =
     axis_limits false c.args.part.now (λ i. (c.type_inv.part i).fits) (sym c.tests.ensures ∙ c.in-Passed.is) 0 (omega arith) c.kernel_on.ensures.0 c.kernel_on.ensures.1

@@ -99,7 +99,7 @@ row_of_means-requires c =
       omega (arith, p.5, L.invariant.5, c.sums-1.given),
       rw (tail_mid L.at L.work, length-drop) (omega (arith, next_row c.loop-v-test.true)),
       c.reciprocal-by.ensures ∙ rw c.area.ensures,
-      (L.v, made.0, held_le f a.window (kept f a.work.now) p.1 p.2 (omega (arith, c.well-formed)) bytes _ L.v made.1),
+      (L.v, made.0, held_le f a.window (kept f a.work.now) p.1 p.2 (omega (arith, c.well_formed)) bytes _ L.v made.1),
     )
 
 pub overflow_add-at : goal.overflow_add-at
@@ -129,7 +129,7 @@ loop-v-preserved c =
     let next : L.v + (2 * a.window.s + 1) ≡ 2 * a.window.s + (L.v + 1) = omega arith in
     let made = rw (part_behind n L.work, kept_same f _ a.work.now L.work L.invariant.0, down) at c.next_row-lower.ensures in
     let bytes = kept_bytes n a.work.now (λ i. omega (arith, c.slice_known-1.given i)) in
-    let means = row_means f a.window (kept f a.work.now) p.1 p.2 (omega (arith, c.well-formed)) bytes _ L.v made.1 in
+    let means = row_means f a.window (kept f a.work.now) p.1 p.2 (omega (arith, c.well_formed)) bytes _ L.v made.1 in
     let row = c.row_of_means.ensures L.v made.0 ∙ ap (λ (l : List ℕ). l ++ drop f.width (take (length L.work - L.at) (drop L.at L.work))) means in
     (rows_stored_more L.invariant.0 c.loop-v-test.true _ (omega (arith, next_row c.loop-v-test.true)) row, rw next at made.0, rw next at made.1, search rules, search rules, search rules)
 

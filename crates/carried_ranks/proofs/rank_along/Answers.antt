@@ -29,14 +29,6 @@ loop-u-init c =
     let left : 15 - c.args.window.r + 0 ≡ 15 - c.args.window.r = omega arith in
     (omega arith, stored_none _ _ _, refl, refl, rw left c.requires.7, sym (total-none _))
 
-pub reach-here-requires : goal.reach-here-requires
-reach-here-requires c =
-    let a = c.args in
-    let p = c.requires in
-    let L = c.loop-u in
-    let n = a.frame.height * a.frame.width in
-    level-there a.frame (take n (drop n a.work.now)) a.window.r a.window.s a.p L.u a.v p.2 p.3 p.4 p.5 L.counts (rw p.6 at L.invariant.4) L.at (omega (arith, c.well-formed)) (kept_bytes n a.work.now (λ i. omega (arith, c.slice_known-2-1.given i))) L.invariant.5
-
 pub overflow_add-work : goal.overflow_add-work
 overflow_add-work c =
     let room : let n = c.args.frame.height * c.args.frame.width in (n + n ≤ length c.args.work.now) × (n ≤ 67108864) × (c.args.v * c.args.frame.width + c.args.frame.width ≤ n) = (plane_behind _ _ refl c.requires.0, plane_small c.requires.0, row_fits c.args.v c.args.frame.height c.args.frame.width c.requires.1) in

@@ -5,5 +5,5 @@ use borrow.Author.Rules.{rules}
 use Rattle.conformance.proofs.make.Goals as goal
 
 pub slice_bounds-path-end : goal.slice_bounds-path-end
-slice_bounds-path-end c =
+slice_bounds-path-end g c =
     sym (length-take-le _ _ (search rules))

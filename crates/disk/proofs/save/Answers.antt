@@ -3,5 +3,5 @@ use mathlib.Core.Path.{refl}
 use Rattle.disk.proofs.save.Goals as goal
 
 pub put-requires : goal.put-requires
-put-requires c =
+put-requires g c =
     refl

@@ -23,7 +23,7 @@ add_tap-requires c =
       still_long _ _ _ _ c.padded_row.ensures (omega (arith, L.invariant.3, p.2)),
       omega arith,
       λ u b. rw (filled_at _ (a.frame.width + 30) _ L.sums (pos 0) u L.invariant.1 b)
-          (omega (arith, rows_small a.frame a.plane.now (omega (arith, c.well-formed.0.1.1.1.0)) (λ i. omega (arith, (c.type_inv.plane i).fits)) (15 - a.s) L.j u (omega (arith, p.1, L.invariant.0)))),
+          (omega (arith, rows_small a.frame a.plane.now (omega (arith, c.well_formed)) (λ i. omega (arith, (c.type_inv.plane i).fits)) (15 - a.s) L.j u (omega (arith, p.1, L.invariant.0)))),
     )
 
 pub loop-j-preserved : goal.loop-j-preserved

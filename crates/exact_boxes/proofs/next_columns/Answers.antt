@@ -13,7 +13,7 @@ add_tap-requires c =
       p.4,
       still_long _ _ _ _ c.padded_row.ensures p.3,
       omega arith,
-      λ u b. rw (p.5 u b) (omega (arith, column_small a.frame a.plane.now a.s (omega (arith, c.well-formed.0.1.1.1.0)) (λ i. omega (arith, (c.type_inv.plane i).fits)) u a.v p.1)),
+      λ u b. rw (p.5 u b) (omega (arith, column_small a.frame a.plane.now a.s (omega (arith, c.well_formed)) (λ i. omega (arith, (c.type_inv.plane i).fits)) u a.v p.1)),
     )
 
 pub add_tap-requires-2 : goal.add_tap-requires-2
@@ -26,7 +26,7 @@ add_tap-requires-2 c =
       still_long _ _ _ _ c.padded_row-2.ensures (still_long _ _ _ _ row p.3),
       omega arith,
       λ u b. rw (tap-at (a.frame.width + 30) (λ x. padded a.frame a.plane.now x (15 - a.s + a.v)) (negsuc 0) _ _ a.sums.now _ row out u b, p.5 u b)
-          (omega (arith, left_small a.frame a.plane.now a.s (omega (arith, c.well-formed.0.1.1.1.0)) (λ i. omega (arith, (c.type_inv.plane i).fits)) u a.v p.1)),
+          (omega (arith, left_small a.frame a.plane.now a.s (omega (arith, c.well_formed)) (λ i. omega (arith, (c.type_inv.plane i).fits)) u a.v p.1)),
     )
 
 pub returns : goal.returns

@@ -46,7 +46,7 @@ sums_across-requires c =
       rw (t, length-tabulate _ n) (omega arith),
       p.6,
       rw t (all_small _ n 134217728 (λ x. down_small p.2 (λ o. padded a.frame a.plane.now x (a.v + o))
-          (λ o. padded-le a.frame a.plane.now x (a.v + o) (omega (arith, c.well-formed.0.1.1.1.0)) (λ i. omega (arith, (c.type_inv.plane i).fits))))),
+          (λ o. padded-le a.frame a.plane.now x (a.v + o) (omega (arith, c.well_formed)) (λ i. omega (arith, (c.type_inv.plane i).fits))))),
     )
 
 pub returns : goal.returns

@@ -64,7 +64,7 @@ add_tap-requires c =
           (omega (
             arith,
             partial_size a.down.offsets a.down.weights (reached a.frame a.plane.now a.v) (pos 0) 255
-                (λ x o. padded-le a.frame a.plane.now x (a.v + o) (omega (arith, c.well-formed.0.1.1.1.0)) (λ i. omega (arith, (c.type_inv.plane i).fits)))
+                (λ x o. padded-le a.frame a.plane.now x (a.v + o) (omega (arith, c.well_formed)) (λ i. omega (arith, (c.type_inv.plane i).fits)))
                 L.k a.down.len L.invariant.0 (omega (arith, size_small p.1)) u,
           )),
     )

@@ -6,13 +6,13 @@ use Rattle.program_filter.proofs.Saved.{length-fits, front_saves}
 use Rattle.hejslopi.proofs.filter.Goals as goal
 
 pub slice_bounds-out-end : goal.slice_bounds-out-end
-slice_bounds-out-end c =
+slice_bounds-out-end g c =
     omega (arith, length-fits c.filter_still.ensures c.in-Picture.is)
 
 pub slice_bounds-save-end : goal.slice_bounds-save-end
-slice_bounds-save-end c =
+slice_bounds-save-end g c =
     sym (length-take-le _ _ (omega (arith, length-fits c.filter_still.ensures c.in-Picture.is)))
 
 pub save-requires : goal.save-requires
-save-requires c =
+save-requires g c =
     front_saves c.filter_still.ensures c.in-Picture.is

@@ -8,8 +8,8 @@ use Rattle.movement_answers.proofs.pair_tests.Goals as goal
 pub returns-then-not-same_size : goal.returns-then-not-same_size
 unfolding verdict
 returns-then-not-same_size c =
-    rw (sym c.same_size.ensures ∙ not-true _ c.if-not-same_size.true)
+    rw (sym c.same_size.ensures ∙ c.if-not-same_size.true)
 
 pub returns : goal.returns
 returns c =
-    lent_to_both _ _ (sym c.same_size.ensures ∙ not-false _ c.if-not-same_size.false) c.lent_tests.ensures c.lent_tests-2.ensures c.both.ensures
+    lent_to_both _ _ (sym c.same_size.ensures ∙ c.if-not-same_size.false) c.lent_tests.ensures c.lent_tests-2.ensures c.both.ensures

@@ -7,5 +7,5 @@ use lib.ListN.{length}
 use Rattle.scripts.proofs.show_mean.Goals as goal
 
 pub slice_bounds-mean_on-end : goal.slice_bounds-mean_on-end
-slice_bounds-mean_on-end c =
+slice_bounds-mean_on-end g c =
     sym (length-take-le _ _ c.at_most.ensures)

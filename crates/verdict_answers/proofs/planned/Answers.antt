@@ -17,7 +17,7 @@ pub returns-then-not-fit_stage : goal.returns-then-not-fit_stage
 returns-then-not-fit_stage c =
     let a = c.args in
     let r = (recipe_read a.recipe.now (sym c.read_recipe.ensures ∙ c.in-Stages.is)).0 in
-    sym (plan_other a.distance a.recipe.now a.raw.now a.received.now a.works (le-leb _ _ c.if-distance-gt255.false) r (sym c.fit_stage.ensures ∙ not-true _ c.if-not-fit_stage.true))
+    sym (plan_other a.distance a.recipe.now a.raw.now a.received.now a.works (le-leb _ _ c.if-distance-gt255.false) r (sym c.fit_stage.ensures ∙ c.if-not-fit_stage.true))
 
 pub returns-in-Refused : goal.returns-in-Refused
 returns-in-Refused c =
@@ -28,4 +28,4 @@ pub returns-else-not-fit_stage : goal.returns-else-not-fit_stage
 returns-else-not-fit_stage c =
     let a = c.args in
     let r = (recipe_read a.recipe.now (sym c.read_recipe.ensures ∙ c.in-Stages.is)).0 in
-    c.stills.ensures ∙ sym (plan_stills a.distance a.recipe.now a.raw.now a.received.now a.works (le-leb _ _ c.if-distance-gt255.false) r (sym c.fit_stage.ensures ∙ not-false _ c.if-not-fit_stage.false))
+    c.stills.ensures ∙ sym (plan_stills a.distance a.recipe.now a.raw.now a.received.now a.works (le-leb _ _ c.if-distance-gt255.false) r (sym c.fit_stage.ensures ∙ c.if-not-fit_stage.false))

@@ -7,7 +7,7 @@ use Rattle.verdict_answers.proofs.stills.Goals as goal
 
 pub returns-then-not-same_size : goal.returns-then-not-same_size
 returns-then-not-same_size c =
-    rw (sym c.read_still.ensures, c.in-Picture.is, sym c.read_still-in-Picture.ensures, c.in-Picture-read_still.is, sym c.same_size.ensures ∙ not-true _ c.if-not-same_size.true)
+    rw (sym c.read_still.ensures, c.in-Picture.is, sym c.read_still-in-Picture.ensures, c.in-Picture-read_still.is, sym c.same_size.ensures ∙ c.if-not-same_size.true)
 
 pub overflow_mul-width : goal.overflow_mul-width
 overflow_mul-width c =
@@ -15,7 +15,7 @@ overflow_mul-width c =
 
 pub returns-then-works-width : goal.returns-then-works-width
 returns-then-works-width c =
-    rw (sym c.read_still.ensures, c.in-Picture.is, sym c.read_still-in-Picture.ensures, c.in-Picture-read_still.is, sym c.same_size.ensures ∙ not-false _ c.if-not-same_size.false, lt-leb _ _ c.if-works-width.true)
+    rw (sym c.read_still.ensures, c.in-Picture.is, sym c.read_still-in-Picture.ensures, c.in-Picture-read_still.is, sym c.same_size.ensures ∙ c.if-not-same_size.false, lt-leb _ _ c.if-works-width.true)
 
 pub returns-in-Refused : goal.returns-in-Refused
 returns-in-Refused c =
@@ -27,4 +27,4 @@ returns-in-Refused-read_still c =
 
 pub returns-else-works-width : goal.returns-else-works-width
 returns-else-works-width c =
-    rw (sym c.read_still.ensures, c.in-Picture.is, sym c.read_still-in-Picture.ensures, c.in-Picture-read_still.is, sym c.same_size.ensures ∙ not-false _ c.if-not-same_size.false, le-leb _ _ c.if-works-width.false)
+    rw (sym c.read_still.ensures, c.in-Picture.is, sym c.read_still-in-Picture.ensures, c.in-Picture-read_still.is, sym c.same_size.ensures ∙ c.if-not-same_size.false, le-leb _ _ c.if-works-width.false)

@@ -5,5 +5,5 @@ use borrow.Author.Rules.{rules}
 use Rattle.verdict_cases.proofs.call.Goals as goal
 
 pub slice_bounds-verdict-end : goal.slice_bounds-verdict-end
-slice_bounds-verdict-end c =
+slice_bounds-verdict-end g c =
     sym (length-take-le _ _ (search rules))

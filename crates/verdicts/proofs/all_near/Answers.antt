@@ -69,7 +69,7 @@ returns-then-not-channel_near c =
     let L = c.loop-k in
     let e = channel-front a.channels (a.w * a.h) L.k a.raw.now _ _ c.take_channel.ensures in
     sym (everywhere_fails (channel_test a.c a.w a.h a.channels (recipe_stages a.recipe.now) a.raw.now a.received.now) a.channels L.k c.loop-k-test.true
-    (sym (channel-tested c.requires.0 a.c a.w a.h a.channels L.k a.raw.now a.received.now _ _ e c.channel_near.ensures) ∙ not-true _ c.if-not-channel_near.true))
+    (sym (channel-tested c.requires.0 a.c a.w a.h a.channels L.k a.raw.now a.received.now _ _ e c.channel_near.ensures) ∙ c.if-not-channel_near.true))
 
 pub loop-k-preserved : goal.loop-k-preserved
 loop-k-preserved c =
@@ -78,7 +78,7 @@ loop-k-preserved c =
     let e = channel-front a.channels (a.w * a.h) L.k a.raw.now _ _ c.take_channel.ensures in (
       omega (arith, c.loop-k-test.true),
       everywhere-more (channel_test a.c a.w a.h a.channels (recipe_stages a.recipe.now) a.raw.now a.received.now) L.k L.invariant.1
-          (sym (channel-tested c.requires.0 a.c a.w a.h a.channels L.k a.raw.now a.received.now _ _ e c.channel_near.ensures) ∙ not-false _ c.if-not-channel_near.false),
+          (sym (channel-tested c.requires.0 a.c a.w a.h a.channels L.k a.raw.now a.received.now _ _ e c.channel_near.ensures) ∙ c.if-not-channel_near.false),
       search rules,
     )
 

@@ -67,6 +67,17 @@ pub slice_bounds-all_columns-end-2 : goal.slice_bounds-all_columns-end-2
 slice_bounds-all_columns-end-2 c =
     rw (take-rows _ _ _ _ _ c.all_rows.ensures) (sym (length-raster _ _ _))
 
+pub returns : goal.returns
+unfolding worked
+returns c =
+    let a = c.args in
+    let f = a.frame in
+    let r = c.reach_of-reach.result in
+    let t = take-rows _ _ _ _ _ c.all_rows.ensures in
+    λ K L x y. c.all_columns.ensures ∙ raster_ext _ _ f.width f.height (λ u v bu bv. rw t
+    (made_level a.across a.down f.width f.height r.first r.last (padded f a.plane.now) c.reach_of-reach.ensures u v bu bv
+    ∙ level_model x y f a.plane.now u v))
+
 pub all_columns-requires : goal.all_columns-requires
 all_columns-requires c =
     let a = c.args in
@@ -81,16 +92,5 @@ all_columns-requires c =
       c.reach_of-reach.ensures,
       rw t (length-raster _ _ _),
       rw t (made_small a.across a.down f.width f.height r.first r.last (padded f a.plane.now) (ready_light p.2.1)
-          (λ x y. padded-le f a.plane.now x y (omega (arith, c.well-formed.0.1.1.1.0)) (λ i. omega (arith, (c.slice_known-1.given i).fits)))),
+          (λ x y. padded-le f a.plane.now x y (omega (arith, c.well_formed)) (λ i. omega (arith, (c.slice_known-1.given i).fits)))),
     )
-
-pub returns : goal.returns
-unfolding worked
-returns c =
-    let a = c.args in
-    let f = a.frame in
-    let r = c.reach_of-reach.result in
-    let t = take-rows _ _ _ _ _ c.all_rows.ensures in
-    λ K L x y. c.all_columns.ensures ∙ raster_ext _ _ f.width f.height (λ u v bu bv. rw t
-    (made_level a.across a.down f.width f.height r.first r.last (padded f a.plane.now) c.reach_of-reach.ensures u v bu bv
-    ∙ level_model x y f a.plane.now u v))

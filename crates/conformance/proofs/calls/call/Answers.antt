@@ -11,29 +11,29 @@ front : {A : Type 0} (n b : ℕ) (v : A) → b ≤ n → length (take b (replica
 front n b v h = length-take-le b (replicate n v) (rw (length-replicate n v) h)
 
 pub slice_bounds-call_on-end : goal.slice_bounds-call_on-end
-slice_bounds-call_on-end c =
+slice_bounds-call_on-end g c =
     sym (front 32768 _ _ (search rules))
 
 pub slice_bounds-call_on-end-then-d-le65536 : goal.slice_bounds-call_on-end-then-d-le65536
-slice_bounds-call_on-end-then-d-le65536 c =
+slice_bounds-call_on-end-then-d-le65536 g c =
     sym (front 262144 _ _ (search rules))
 
 pub slice_bounds-call_on-end-then-d-le65536-2 : goal.slice_bounds-call_on-end-then-d-le65536-2
-slice_bounds-call_on-end-then-d-le65536-2 c =
+slice_bounds-call_on-end-then-d-le65536-2 g c =
     sym (front 16384 _ _ (search rules))
 
 pub slice_bounds-call_on-end-then-d-le65536-3 : goal.slice_bounds-call_on-end-then-d-le65536-3
-slice_bounds-call_on-end-then-d-le65536-3 c =
+slice_bounds-call_on-end-then-d-le65536-3 g c =
     sym (front 65536 _ _ (search rules))
 
 pub call_on-requires : goal.call_on-requires
-call_on-requires c =
+call_on-requires g c =
     tt
 
 pub returns-then-d-le65536 : goal.returns-then-d-le65536
-returns-then-d-le65536 c =
+returns-then-d-le65536 g c =
     tt
 
 pub returns-else-a-le32768 : goal.returns-else-a-le32768
-returns-else-a-le32768 c =
+returns-else-a-le32768 g c =
     tt
