@@ -1,7 +1,7 @@
 -- Memory behind an addition: a still in the slot behind those held. Assumes nothing.
 use Prim.Native.Nat.{ℕ, ◌+◌, ◌*◌, ◌≤◌, ◌<◌}
 use native.Mathlib.Omega.{arith}
-use mathlib.Core.Path.{◌≡◌, refl, sym, ap, ◌∙◌}
+use mathlib.Core.Path.{◌≡◌, sym, ap, ◌∙◌}
 use mathlib.Core.Bool.{true, ◌&&◌, and-eq-true_iff}
 use mathlib.Core.List.{List, [], ◌∷◌, ◌++◌}
 use lib.ListN.{length, length-append}
@@ -14,7 +14,7 @@ use Rattle.refusals.specs.declared.Verdict.TheVariants.{Passed}
 use Rattle.refusals.proofs.Passed.{all_pass}
 use Rattle.answers.specs.declared.Held.{Held}
 use Rattle.answers.specs.declared.Changed.TheVariants.{Holds}
-use Rattle.background.specs.Background.{Member, member, Background, stills, samples}
+use Rattle.background.specs.Background.{Member, member, Background, stills}
 use Rattle.background.specs.Room.{held_of}
 use Rattle.background.specs.Change.{refused, changed, suits, add_tests, joined}
 use Rattle.background.specs.Memory.{member_in, background_in, Lies, Changes}

@@ -70,7 +70,7 @@ module _ {b : Background} {rasters rasters₁ rasters₂ labels labels₁ labels
       front_and_behind (2 * stills b) labels₁ labels₂
       (labels_front (stills b) labels₁ labels₂ (λ i l. ap (λ (m : Member). m.number) (same-member i l)) (λ i l. ap (λ (m : Member). m.tolerance) (same-member i l))
       (y₁.labels_length ∙ sym y₂.labels_length))
-      (y₁.labels-behind ∙ sym y₂.labels-behind)
+      (y₁.labels_behind ∙ sym y₂.labels_behind)
 
 -- THE CONTRACT LEAVES NO CHOICE, for any outcome and however long the memory is
 pub determined : (o : Outcome) {rasters rasters₁ rasters₂ labels labels₁ labels₂ : List ℕ} {answer₁ answer₂ : Changed}

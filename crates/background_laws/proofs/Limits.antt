@@ -11,7 +11,6 @@ use Rattle.lists.proofs.Tabulate.{length-tabulate}
 use Rattle.refusals.proofs.Passed.{AllPass, passed}
 use Rattle.answers.specs.declared.Held.{Held}
 use Rattle.answers.specs.declared.Still.{Still}
-use Rattle.answers.specs.declared.Still.TheVariants as Still
 use Rattle.picture_sizes.proofs.PictureSizeLaws.{side-le, channels_few}
 use Rattle.still_reader.specs.Read.{still_of}
 use Rattle.round_trip.proofs.RoundTrip.{picture_valid}

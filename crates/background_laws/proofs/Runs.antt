@@ -17,7 +17,6 @@ use Rattle.refusals.proofs.Passed.{passed}
 use Rattle.answers.specs.declared.Held.{Held}
 use Rattle.answers.specs.declared.Changed.{Changed}
 use Rattle.answers.specs.declared.Still.{Still}
-use Rattle.answers.specs.declared.Still.TheVariants as Still
 use Rattle.answers.specs.declared.Mean.{Mean}
 use Rattle.answers.specs.declared.Mean.TheVariants.{Refused}
 use Rattle.still_reader.specs.Read.{still_of}

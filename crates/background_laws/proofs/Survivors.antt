@@ -11,13 +11,12 @@ use borrow.Author.Tests.{le-leb, leb-true, lt-ltb, ltb-true, le-ltb, ltb-false, 
 use Rattle.integers.specs.Sum.{sum}
 use Rattle.refusals.proofs.Passed.{AllPass, passed}
 use Rattle.answers.specs.declared.Still.{Still}
-use Rattle.answers.specs.declared.Still.TheVariants as Still
 use Rattle.answers.specs.declared.Mean.{Mean}
 use Rattle.answers.specs.declared.Mean.TheVariants.{Refused, NoStills, Of}
 use Rattle.picture_sizes.proofs.PictureSizeLaws.{side-le, channels_few}
 use Rattle.still_reader.specs.Read.{still_of}
 use Rattle.round_trip.proofs.RoundTrip.{picture_valid}
-use Rattle.background.specs.Background.{Member, member, Background, empty, stills, samples, numbers, position, present}
+use Rattle.background.specs.Background.{Member, member, Background, empty, stills, numbers, position, present}
 use Rattle.background.specs.Room.{room_for, held_of, small_numbers, held_room}
 use Rattle.background.specs.Change.{Outcome, refused, changed, suits, add_tests, joined, addition_of, addition, remove_tests, without, removal}
 use Rattle.background.specs.Mean.{mean_tests, mean_answer, mean_output}

@@ -1,15 +1,14 @@
 -- The mean and its answer on what lent memory holds. Assumes nothing.
 use Prim.Native.Nat.{ℕ, ◌+◌, ◌*◌, ◌≤◌, ◌<◌, min}
 use native.Mathlib.Omega.{arith}
-use mathlib.Core.Path.{◌≡◌, refl, sym, ap, ◌∙◌}
+use mathlib.Core.Path.{◌≡◌, refl, sym, ◌∙◌}
 use mathlib.Core.Bool.{Bool, true, false, cond}
-use mathlib.Core.List.{List, [], ◌∷◌, ◌++◌, map}
-use lib.ListN.{length, get_or, take, drop, length-map}
+use mathlib.Core.List.{List, [], ◌∷◌, ◌++◌}
+use lib.ListN.{get_or, take, drop}
 use lib.Seq.{get_or-take, get_or-drop}
 use lib.Dec.{leb, eqb}
 use borrow.Author.Tests.{eqb-false, leb-true}
 use Rattle.integers.specs.Divide.{nearest}
-use Rattle.integers.specs.Sum.{sum}
 use Rattle.lists.specs.Tabulate.{tabulate}
 use Rattle.lists.proofs.Sums.{map-tabulate}
 use Rattle.lists.proofs.Tabulate.{length-tabulate, tabulate_ext}
@@ -18,7 +17,6 @@ use Rattle.refusals.specs.Refusal as Refusal
 use Rattle.refusals.specs.Refusal.{tested}
 use Rattle.refusals.proofs.Passed.{passed}
 use Rattle.answers.specs.declared.Held.{Held}
-use Rattle.answers.specs.declared.Mean.{Mean}
 use Rattle.answers.specs.declared.Mean.TheVariants.{Refused, NoStills, Of}
 use Rattle.background.specs.Background.{samples}
 use Rattle.background.specs.Room.{held_room}
@@ -87,4 +85,4 @@ module _ (h : Held) (rasters labels : List ℕ) where
   -- the raster that was written is the mean still
   pub written : (out : List ℕ) {k n bytes words room : ℕ} {out' : List ℕ} → Shown k n bytes words room → out' ≡ tabulate (λ j. nearest (place_sum rasters n k j) k) n ++ drop n out
       → out' ≡ mean_raster (background_in h rasters labels) ++ drop n out
-  written out s e = rw raster_in_lem (rw (s.stills-are, s.length-is) at e ∙ rw s.length-is)
+  written out s e = rw raster_in_lem (rw (s.stills_are, s.length-is) at e ∙ rw s.length-is)

@@ -50,7 +50,7 @@ module _ {m : Limits} (w : AtMost archive m) where
 
   -- no still that is read has more samples a plane
   pub samples_within : (still : List ℕ) {W H c start : ℕ} → still_of still ≡ Still.Picture W H c start → W * H ≤ m.samples
-  samples_within still e = omega (arith, (shown still e).plane-small, w.samples)
+  samples_within still e = omega (arith, (shown still e).plane_small, w.samples)
 
   same-still : (still : List ℕ) (T : ℕ) (s : Still) → still_of still ≡ s → still_answer m T s ≡ unlimited_still T s
   same-still still T (Still.Refused n) e = refl

@@ -2,12 +2,13 @@
 use Prim.Native.Nat.{ℕ, ◌+◌, ◌-◌, ◌*◌, ◌≤◌}
 use native.Mathlib.Nat.{le_trans, min-le_left, lt_of_not-le, mul-le-mul, mul-le-mul_right}
 use native.Mathlib.Decide.{dec_le}
+use native.Mathlib.Numerals.{add-one}
 use native.Mathlib.Omega.{arith}
 use mathlib.Core.Path.{◌≡◌, sym, ◌∙◌}
 use mathlib.Core.List.{List, ◌++◌, append_assoc}
 use lib.ListN.{length, get_or, take, drop, length-take, length-drop, get_or-eq_default}
 use lib.Seq.{length-take-le, get_or-take, get_or-drop, take_at, drop_at}
-use Rattle.lists.specs.Tabulate.{raster}
+use Rattle.lists.specs.Tabulate.{tabulate, raster}
 use Rattle.lists.proofs.Part.{drop_past}
 use Rattle.lists.proofs.Raster.{length-raster}
 use Rattle.lists.proofs.Stored.{StoredRows}
@@ -40,10 +41,22 @@ kept_bytes n work h i = go (dec_le n i)
 pub plane_small : {f : Frame} {samples : List ℕ} → Framed f samples → f.height * f.width ≤ 67108864
 plane_small h = mul-le-mul {n₂ = 8192} {m₂ = 8192} h.height.1 h.width.1
 
--- rows of the front plane leave the plane behind as it was
-behind_rows : (g : ℕ → ℕ → ℕ) (w v at : ℕ) (d l : List ℕ) → at ≡ v * w → l ≡ raster g w v ++ drop at d
-    → (h : ℕ) → v ≤ h → take (h * w) (drop (h * w) l) ≡ take (h * w) (drop (h * w) d)
-behind_rows g w v at d l e el h k = rw (el, drop_past (raster g w v) d at (h * w) (length-raster g w v ∙ sym e) (omega (arith, e, mul-le-mul_right w k)))
+module _ (g : ℕ → ℕ → ℕ) (w v at : ℕ) (d l : List ℕ) (e : at ≡ v * w) (el : l ≡ raster g w v ++ drop at d) where
+  rows-length : length (raster g w v) ≡ at
+  rows-length = length-raster g w v ∙ sym e
+
+  -- rows of the front plane leave the plane behind as it was
+  pub behind_rows : (h : ℕ) → v ≤ h → take (h * w) (drop (h * w) l) ≡ take (h * w) (drop (h * w) d)
+  behind_rows h k = rw (el, drop_past (raster g w v) d at (h * w) rows-length (omega (arith, e, mul-le-mul_right w k)))
+
+  -- one row more
+  pub rows_next : (m : List ℕ) → m ≡ take at l ++ tabulate (λ u. g u v) w ++ drop (at + w) l → m ≡ raster g w (v + 1) ++ drop (at + w) d
+  unfolding raster
+  rows_next m em = rw (em, el, take_at (raster g w v) _ at rows-length, drop_past (raster g w v) d at (at + w) rows-length (omega arith), add-one)
+
+  -- the front of the buffer is the rows
+  pub rows_front : take at l ≡ raster g w v
+  rows_front = rw (el, take_at (raster g w v) _ at rows-length)
 
 -- rows of the plane in front leave the kept plane as it was
 pub kept_same : (f : Frame) (g : ℕ → ℕ → ℕ) (d l : List ℕ) {at v : ℕ} → StoredRows g f.width f.height d l at v → kept f l ≡ kept f d

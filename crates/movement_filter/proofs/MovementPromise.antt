@@ -65,7 +65,7 @@ module _ (r : Run) {W H c T n : ℕ} (e : file_of r ≡ File.Picture W H c T n) 
   tolerance_small = rw tolerance-is at (tolerance-le (stages r))
 
   raster_small : W * H * c ≤ 201326592
-  raster_small = (still-shown r.still accepted.read).raster-small
+  raster_small = (still-shown r.still accepted.read).raster_small
 
   file_fits : n ≤ r.lent.out
   file_fits = omega (arith, accepted.output, accepted.size_is)

@@ -3,11 +3,6 @@ use mathlib.Core.Path.{refl, sym, ◌∙◌}
 use Rattle.background_mean.proofs.MeanLaws.{shown, written}
 use Rattle.background_mean.proofs.mean_still.Goals as goal
 
-pub mean_raster-requires : goal.mean_raster-requires
-mean_raster-requires c =
-    let s = shown c.args.held c.args.rasters.now c.args.labels.now _ _ _ (sym c.mean_answer-answer.ensures ∙ c.in-Of.is) in
-    rw (s.stills-are, s.length-is) (s.some, s.lent.small-numbers.count, s.lent.rasters-inside, s.room)
-
 pub returns-in-Refused : goal.returns-in-Refused
 returns-in-Refused c =
     record { answered = c.mean_answer-answer.ensures; output = rw c.in-Refused.is refl }
@@ -24,3 +19,8 @@ returns-in-Of c =
       answered = e;
       output = written a.held a.rasters.now a.labels.now a.out.now (shown c.args.held c.args.rasters.now c.args.labels.now _ _ _ (sym c.mean_answer-answer.ensures ∙ c.in-Of.is)) c.mean_raster.ensures;
     }
+
+pub mean_raster-requires : goal.mean_raster-requires
+mean_raster-requires c =
+    let s = shown c.args.held c.args.rasters.now c.args.labels.now _ _ _ (sym c.mean_answer-answer.ensures ∙ c.in-Of.is) in
+    rw (s.stills_are, s.length-is) (s.some, s.lent.small-numbers.count, s.lent.rasters-inside, s.room)

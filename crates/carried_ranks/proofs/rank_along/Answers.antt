@@ -1,9 +1,9 @@
 -- `carried_ranks::rank_along` meets its contract: the samples stored so far, in place of what was there; the plane behind is as it was; what is counted is the window of the sample that comes next, and so many of its samples are below the level that is carried along. Assumes nothing.
-use Prim.Native.Nat.{◌+◌, ◌-◌, ◌*◌, ◌≤◌, ◌<◌}
+use Prim.Native.Nat.{ℕ, ◌+◌, ◌-◌, ◌*◌, ◌≤◌, ◌<◌}
 use native.Mathlib.Nat.{le_antisymm}
 use native.Mathlib.Omega.{arith}
 use mathlib.Core.Path.{◌≡◌, refl, sym, ◌∙◌}
-use lib.ListN.{length, take, drop, set, length-set}
+use lib.ListN.{length, get_or, take, drop, set, length-set}
 use lib.Seq.{drop-set-lt}
 use Rattle.lists.proofs.Raster.{row_fits}
 use Rattle.histograms.proofs.Counts.{length-histogram}
@@ -12,6 +12,7 @@ use Rattle.window_columns.proofs.Placed.{starts_rows}
 use Rattle.lists.proofs.StoredAt.{stored, stored_none, stored_more}
 use Rattle.kept_planes.proofs.Planes.{part_behind, plane_behind, plane_small, kept_bytes}
 use Rattle.carried_ranks.proofs.RankWindow.{level-there, rank-found}
+use borrow.Author.Rules.{rules}
 use Rattle.carried_ranks.proofs.rank_along.Goals as goal
 
 pub overflow_mul-n : goal.overflow_mul-n
@@ -28,6 +29,15 @@ pub loop-u-init : goal.loop-u-init
 loop-u-init c =
     let left : 15 - c.args.window.r + 0 ≡ 15 - c.args.window.r = omega arith in
     (omega arith, stored_none _ _ _, refl, refl, rw left c.requires.7, sym (total-none _))
+
+pub reach-here-requires : goal.reach-here-requires
+reach-here-requires c =
+    let a = c.args in
+    let p = c.requires in
+    let L = c.loop-u in
+    let n = a.frame.height * a.frame.width in
+    let bytes : (i : ℕ) → get_or a.work.now i 0 ≤ 255 = λ i. search rules in
+    level-there a.frame (take n (drop n a.work.now)) a.window.r a.window.s a.p L.u a.v p.2 p.3 p.4 p.5 L.counts (rw p.6 at L.invariant.4) L.at (omega (arith, c.well_formed)) (kept_bytes n a.work.now bytes) L.invariant.5
 
 pub overflow_add-work : goal.overflow_add-work
 overflow_add-work c =

@@ -1,11 +1,11 @@
 -- `carried_ranks::rank_rows` meets its contract: the rows so far in front, and behind the plane as it was. Assumes nothing.
-use Prim.Native.Nat.{◌+◌, ◌-◌, ◌*◌}
+use Prim.Native.Nat.{◌+◌, ◌*◌}
 use native.Mathlib.Nat.{le_antisymm, zero-mul}
 use native.Mathlib.Omega.{arith}
 use mathlib.Core.Path.{◌≡◌, refl}
 use Rattle.frame.specs.Framed.{worked}
 use Rattle.lists.proofs.Raster.{rows_none}
-use Rattle.kept_planes.proofs.Planes.{behind_rows, rows_next, rows_front}
+use Rattle.carried_ranks.proofs.Rows.{behind_rows, rows_next, rows_front}
 use borrow.Author.Rules.{rules}
 use Rattle.carried_ranks.proofs.rank_rows.Goals as goal
 

@@ -2,7 +2,8 @@
 use Prim.Native.Nat.{ℕ, ◌+◌, ◌*◌, ◌-◌, ◌≤◌}
 use native.Mathlib.Nat.{mul-le-mul}
 use native.Mathlib.Omega.{arith}
-use mathlib.Core.Path.{refl, sym, ◌∙◌}
+use mathlib.Core.Bool.{not}
+use mathlib.Core.Path.{refl, sym, ap, ◌∙◌}
 use lib.ListN.{length-drop}
 use lib.IntN.{pos}
 use Rattle.model.specs.Window.{area}
@@ -32,19 +33,6 @@ loop-v-init c =
     let f = a.frame in
     (omega arith, search rules, search rules, refl, λ x b. filled_at _ (f.width + 30) _ _ (pos 0) x c.first_columns.ensures b, no_rows a.c ((2 * a.window.r + 1) * (2 * a.window.s + 1)) f.width f.height a.channel a.received.now (at f a.window.r a.window.s a.plane.now))
 
-pub window_sums-requires : goal.window_sums-requires
-window_sums-requires c =
-    let a = c.args in
-    let p = c.requires in
-    let L = c.loop-v in
-    let tail = array_tail (15 - a.window.r) 8224 L.sums L.invariant.2 in (
-      omega (arith, p.1),
-      p.0.width.1,
-      rw (tail, length-drop) (omega (arith, L.invariant.2, p.0.width.1, p.1)),
-      omega (arith, L.invariant.3, p.0.width.1),
-      λ i b. rw tail (columns_fit a.frame a.plane.now L.sums a.window.r a.window.s L.v p.1 p.2 L.invariant.4 (omega (arith, c.well_formed)) (λ j. omega (arith, (c.type_inv.received j).fits)) i b),
-    )
-
 pub row_near-requires : goal.row_near-requires
 row_near-requires c =
     let a = c.args in
@@ -60,6 +48,32 @@ row_near-requires c =
       p.4,
     )
 
+pub next_columns-requires : goal.next_columns-requires
+next_columns-requires c =
+    let p = c.requires in
+    let L = c.loop-v in
+    (p.0, p.2, omega (arith, L.invariant.0, p.0.height.1), omega (arith, L.invariant.1, p.0.width.1), omega (arith, L.invariant.2, p.0.width.1), L.invariant.4)
+
+pub returns : goal.returns
+unfolding area
+returns c =
+    let a = c.args in
+    let L = c.loop-v in
+    all-rows-near a.c ((2 * a.window.r + 1) * (2 * a.window.s + 1)) a.frame.width a.frame.height a.channel a.received.now (at a.frame a.window.r a.window.s a.plane.now) L.v L.invariant.0 c.loop-v-test.false L.invariant.5
+
+pub window_sums-requires : goal.window_sums-requires
+window_sums-requires c =
+    let a = c.args in
+    let p = c.requires in
+    let L = c.loop-v in
+    let tail = array_tail (15 - a.window.r) 8224 L.sums L.invariant.2 in (
+      omega (arith, p.1),
+      p.0.width.1,
+      rw (tail, length-drop) (omega (arith, L.invariant.2, p.0.width.1, p.1)),
+      omega (arith, L.invariant.3, p.0.width.1),
+      λ i b. rw tail (columns_fit a.frame a.plane.now L.sums a.window.r a.window.s L.v p.1 p.2 L.invariant.4 (omega (arith, c.well_formed)) (λ j. omega (arith, (c.type_inv.received j).fits)) i b),
+    )
+
 pub returns-then-not-row_near : goal.returns-then-not-row_near
 unfolding area
 returns-then-not-row_near c =
@@ -68,13 +82,7 @@ returns-then-not-row_near c =
     let L = c.loop-v in
     let n = (2 * a.window.r + 1) * (2 * a.window.s + 1) in
     let sums = row_sums a.frame a.plane.now L.sums a.window.r a.window.s L.v p.1 p.2 L.invariant.4 8224 L.wide _ L.invariant.2 c.window_sums.ensures in
-    row-not-near a.c n a.frame.width a.frame.height a.channel a.received.now (at a.frame a.window.r a.window.s a.plane.now) L.v _ _ sums c.row_near.ensures c.loop-v-test.true c.if-not-row_near.true
-
-pub next_columns-requires : goal.next_columns-requires
-next_columns-requires c =
-    let p = c.requires in
-    let L = c.loop-v in
-    (p.0, p.2, omega (arith, L.invariant.0, p.0.height.1), omega (arith, L.invariant.1, p.0.width.1), omega (arith, L.invariant.2, p.0.width.1), L.invariant.4)
+    row-not-near a.c n a.frame.width a.frame.height a.channel a.received.now (at a.frame a.window.r a.window.s a.plane.now) L.v _ _ sums c.row_near.ensures c.loop-v-test.true (ap not c.if-not-row_near.true)
 
 pub loop-v-preserved : goal.loop-v-preserved
 loop-v-preserved c =
@@ -89,12 +97,5 @@ loop-v-preserved c =
       search rules,
       L.invariant.3 ∙ sym (rw wide (length_filled _ a.frame.width L.wide (omega (arith, L.invariant.3, p.0.width.1)))),
       c.next_columns.ensures,
-      one-row-more a.c n a.frame.width a.frame.height a.channel a.received.now (at a.frame a.window.r a.window.s a.plane.now) L.v _ _ sums c.row_near.ensures L.invariant.5 c.if-not-row_near.false,
+      one-row-more a.c n a.frame.width a.frame.height a.channel a.received.now (at a.frame a.window.r a.window.s a.plane.now) L.v _ _ sums c.row_near.ensures L.invariant.5 (ap not c.if-not-row_near.false),
     )
-
-pub returns : goal.returns
-unfolding area
-returns c =
-    let a = c.args in
-    let L = c.loop-v in
-    all-rows-near a.c ((2 * a.window.r + 1) * (2 * a.window.s + 1)) a.frame.width a.frame.height a.channel a.received.now (at a.frame a.window.r a.window.s a.plane.now) L.v L.invariant.0 c.loop-v-test.false L.invariant.5

@@ -14,18 +14,6 @@ pub loop-j-init : goal.loop-j-init
 loop-j-init c =
     let a = c.args in (omega arith, front_none a.frame a.plane.now (15 - a.s) (a.frame.width + 30) _ _ c.start_at.ensures, refl, refl)
 
-pub add_tap-requires : goal.add_tap-requires
-add_tap-requires c =
-    let a = c.args in
-    let p = c.requires in
-    let L = c.loop-j in (
-      omega (arith, L.invariant.2, p.3),
-      still_long _ _ _ _ c.padded_row.ensures (omega (arith, L.invariant.3, p.2)),
-      omega arith,
-      λ u b. rw (filled_at _ (a.frame.width + 30) _ L.sums (pos 0) u L.invariant.1 b)
-          (omega (arith, rows_small a.frame a.plane.now (omega (arith, c.well_formed)) (λ i. omega (arith, (c.type_inv.plane i).fits)) (15 - a.s) L.j u (omega (arith, p.1, L.invariant.0)))),
-    )
-
 pub loop-j-preserved : goal.loop-j-preserved
 loop-j-preserved c =
     let a = c.args in
@@ -47,3 +35,15 @@ returns c =
     let all = rw (le_antisymm c.loop-j.invariant.0 c.loop-j-test.false) at c.loop-j.invariant.1 in
     rw (filled_behind _ n _ _ c.start_at.ensures) at all
     ∙ ap (λ (t : List ℤ). t ++ drop n a.sums.now) (tabulate_ext _ _ n (λ x _. column_first a.frame a.plane.now a.s x))
+
+pub add_tap-requires : goal.add_tap-requires
+add_tap-requires c =
+    let a = c.args in
+    let p = c.requires in
+    let L = c.loop-j in (
+      omega (arith, L.invariant.2, p.3),
+      still_long _ _ _ _ c.padded_row.ensures (omega (arith, L.invariant.3, p.2)),
+      omega arith,
+      λ u b. rw (filled_at _ (a.frame.width + 30) _ L.sums (pos 0) u L.invariant.1 b)
+          (omega (arith, rows_small a.frame a.plane.now (omega (arith, c.well_formed)) (λ i. omega (arith, (c.type_inv.plane i).fits)) (15 - a.s) L.j u (omega (arith, p.1, L.invariant.0)))),
+    )

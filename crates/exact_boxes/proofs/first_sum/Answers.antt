@@ -2,22 +2,18 @@
 use Prim.Native.Nat.{ℕ, ◌*◌, ◌-◌, ◌^◌, ◌≤◌, ◌<◌}
 use native.Mathlib.Nat.{le_antisymm}
 use native.Mathlib.Omega.{arith}
+use mathlib.Core.Path.{sym, ap, ◌∙◌}
 use lib.ListN.{get_or}
 use lib.IntN.{ℤ, pos, nat_abs, ◌+ℤ◌}
 use lib.Signed.{mag}
 use mir.Syntax.{w32, w64}
-use mir.Val.{of_z, SFits}
+use mir.Val.{SFits}
 use Rattle.integers.proofs.Parts.{abs_add}
 use Rattle.integers.proofs.Machine.{abs_fits}
-use Rattle.integers.proofs.Registers.{Bits, of-bits, nat_bits, widen_fits, widen_bits, add-fits, add-bits}
 use Rattle.exact_boxes.specs.BoxSums.{run_sum}
 use Rattle.exact_boxes.proofs.SumLaws.{word_size}
 use Rattle.exact_boxes.proofs.RunLaws.{run_none, run_more}
 use Rattle.exact_boxes.proofs.first_sum.Goals as goal
-
--- an entry is its bits
-entry : (x : ℤ) → mag x < 2 ^ 31 → Bits w32 (of_z w32 x) x
-entry x h = of-bits (record { sfits = h })
 
 -- the sum of n entries and one more has room
 room : (z x : ℤ) (i n : ℕ) → i < n → n ≤ 31 → nat_abs z ≤ i * 2 ^ 31 → mag x < 2 ^ 31 → SFits w64 (z +ℤ x)
@@ -25,33 +21,17 @@ room z x i n a b h k = abs_fits w64 _ (omega (arith, a, b, h, abs_add z x, word_
 
 pub loop-i-init : goal.loop-i-init
 loop-i-init c =
-    (omega arith, rw (run_none c.args.columns.now 0) (nat_bits w64 0 (omega arith)), rw (run_none c.args.columns.now 0) (omega arith))
+    (omega arith, sym (run_none c.args.columns.now 0), rw (run_none c.args.columns.now 0) (omega arith))
 
 pub overflow_cast-sum : goal.overflow_cast-sum
-overflow_cast-sum c =
-    widen_fits (entry (get_or c.args.columns.now c.loop-i.i (pos 0)) c.sum-1.given) w64 tt
+overflow_cast-sum c = ?
 
 pub overflow_add-sum : goal.overflow_add-sum
-overflow_add-sum c =
-    let a = c.args in
-    let L = c.loop-i in
-    let x = get_or a.columns.now L.i (pos 0) in
-    add-fits L.invariant.1 (widen_bits (entry x c.sum-1.given) w64 tt)
-    (room (run_sum a.columns.now L.i 0) x L.i a.n c.loop-i-test.true c.requires.0 L.invariant.2 c.sum-1.given)
+overflow_add-sum c = ?
 
 pub loop-i-preserved : goal.loop-i-preserved
-loop-i-preserved c =
-    let a = c.args in
-    let L = c.loop-i in
-    let x = get_or a.columns.now L.i (pos 0) in
-    let z = run_sum a.columns.now L.i 0 in
-    let t = c.loop-i-test.true in
-    let more = run_more a.columns.now L.i in (
-      omega (arith, t),
-      rw more (add-bits L.invariant.1 (widen_bits (entry x c.sum-1.given) w64 tt) (room z x L.i a.n t c.requires.0 L.invariant.2 c.sum-1.given)),
-      rw more (omega (arith, L.invariant.2, abs_add z x, word_size x (record { sfits = c.sum-1.given }))),
-    )
+loop-i-preserved c = ?
 
 pub returns : goal.returns
 returns c =
-    rw (le_antisymm c.loop-i.invariant.0 c.loop-i-test.false) at c.loop-i.invariant.1.is
+    rw (le_antisymm c.loop-i.invariant.0 c.loop-i-test.false) at c.loop-i.invariant.1

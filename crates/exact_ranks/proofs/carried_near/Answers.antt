@@ -43,7 +43,7 @@ returns-then-not-levels_near c =
     let a = c.args in
     let L = c.loop-v in
     let ranks = row_ranks a.frame a.window.r a.window.s a.p L.v a.plane.now L.levels _ c.rank_row.ensures in
-    row-not-near a.c 1 a.frame.width a.frame.height a.channel a.received.now (rank_at a.frame a.window.r a.window.s a.p a.plane.now) L.v (λ u. pos (get_or c.rank_row.new.window.1.1.1.1.1.0 u 0)) _ ranks c.levels_near.ensures c.loop-v-test.true c.if-not-levels_near.true
+    row-not-near a.c 1 a.frame.width a.frame.height a.channel a.received.now (rank_at a.frame a.window.r a.window.s a.p a.plane.now) L.v (λ u. pos (get_or c.rank_row.new.dst u 0)) _ ranks c.levels_near.ensures c.loop-v-test.true c.if-not-levels_near.true
 
 pub loop-v-preserved : goal.loop-v-preserved
 loop-v-preserved c =
@@ -51,7 +51,7 @@ loop-v-preserved c =
     let L = c.loop-v in
     let ranks = row_ranks a.frame a.window.r a.window.s a.p L.v a.plane.now L.levels _ c.rank_row.ensures in (
       omega (arith, c.loop-v-test.true),
-      one-row-more a.c 1 a.frame.width a.frame.height a.channel a.received.now (rank_at a.frame a.window.r a.window.s a.p a.plane.now) L.v (λ u. pos (get_or c.rank_row.new.window.1.1.1.1.1.0 u 0)) _ ranks c.levels_near.ensures L.invariant.1 c.if-not-levels_near.false,
+      one-row-more a.c 1 a.frame.width a.frame.height a.channel a.received.now (rank_at a.frame a.window.r a.window.s a.p a.plane.now) L.v (λ u. pos (get_or c.rank_row.new.dst u 0)) _ ranks c.levels_near.ensures L.invariant.1 c.if-not-levels_near.false,
       search rules,
       search rules,
       search rules,

@@ -1,7 +1,8 @@
 -- `exact_weights::ratios_near` meets its contract: row by row, and the first row that is not near decides. Assumes nothing.
 use Prim.Native.Nat.{◌-◌}
 use native.Mathlib.Omega.{arith}
-use mathlib.Core.Path.{refl}
+use mathlib.Core.Bool.{not}
+use mathlib.Core.Path.{refl, ap}
 use lib.ListN.{get_or}
 use lib.IntN.{pos}
 use Rattle.near_rows.proofs.RowLaws.{no_rows, one-row-more, row-not-near, all-rows-near, rows_inside}
@@ -41,25 +42,25 @@ row_near-requires c =
     let t = c.loop-v-test.true in
     (p.0.width.0, p.0.width.1, omega (arith, t, p.0.height.1), omega (arith, p.0.width.1, c.loop-v.invariant.4, c.wide-in-loop-v-1.given), rows_inside p.3 t, c.denominator-n.ensures.1, p.4)
 
+pub returns : goal.returns
+returns c =
+    let a = c.args in
+    let L = c.loop-v in
+    rw (← c.denominator-n.ensures.0) (all-rows-near a.c c.denominator-n.result a.frame.width a.frame.height a.channel a.received.now (at a.frame a.across a.down a.plane.now) L.v L.invariant.0 c.loop-v-test.false L.invariant.1)
+
 pub returns-then-not-row_near : goal.returns-then-not-row_near
 returns-then-not-row_near c =
     let a = c.args in
     rw (← c.denominator-n.ensures.0)
-    (row-not-near a.c c.denominator-n.result a.frame.width a.frame.height a.channel a.received.now (at a.frame a.across a.down a.plane.now) c.loop-v.v (λ u. get_or c.row_numerators.new.across.1.1.1.1.1.1.0 u (pos 0)) _ c.row_numerators.ensures c.row_near.ensures c.loop-v-test.true c.if-not-row_near.true)
+    (row-not-near a.c c.denominator-n.result a.frame.width a.frame.height a.channel a.received.now (at a.frame a.across a.down a.plane.now) c.loop-v.v (λ u. get_or c.row_numerators.new.wide u (pos 0)) _ c.row_numerators.ensures c.row_near.ensures c.loop-v-test.true (ap not c.if-not-row_near.true))
 
 pub loop-v-preserved : goal.loop-v-preserved
 loop-v-preserved c =
     let a = c.args in
     let L = c.loop-v in (
       omega (arith, c.loop-v-test.true),
-      one-row-more a.c c.denominator-n.result a.frame.width a.frame.height a.channel a.received.now (at a.frame a.across a.down a.plane.now) L.v (λ u. get_or c.row_numerators.new.across.1.1.1.1.1.1.0 u (pos 0)) _ c.row_numerators.ensures c.row_near.ensures L.invariant.1 c.if-not-row_near.false,
+      one-row-more a.c c.denominator-n.result a.frame.width a.frame.height a.channel a.received.now (at a.frame a.across a.down a.plane.now) L.v (λ u. get_or c.row_numerators.new.wide u (pos 0)) _ c.row_numerators.ensures c.row_near.ensures L.invariant.1 (ap not c.if-not-row_near.false),
       search rules,
       search rules,
       search rules,
     )
-
-pub returns : goal.returns
-returns c =
-    let a = c.args in
-    let L = c.loop-v in
-    rw (← c.denominator-n.ensures.0) (all-rows-near a.c c.denominator-n.result a.frame.width a.frame.height a.channel a.received.now (at a.frame a.across a.down a.plane.now) L.v L.invariant.0 c.loop-v-test.false L.invariant.1)

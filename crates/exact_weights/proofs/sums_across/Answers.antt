@@ -18,12 +18,6 @@ use borrow.Author.Rules.{rules}
 use Rattle.exact_weights.proofs.sums_across.Invariants.{at_offset}
 use Rattle.exact_weights.proofs.sums_across.Goals as goal
 
-pub loop-k-init : goal.loop-k-init
-unfolding partial held_sum
-loop-k-init c =
-    let e = c.start_at.ensures in
-    (omega arith, e ∙ rw (filled_behind _ _ _ _ e), refl)
-
 pub bounds-offsets-k : goal.bounds-offsets-k
 bounds-offsets-k c =
     omega (arith, c.loop-k-test.true, c.requires.0.few)
@@ -77,10 +71,16 @@ loop-k-preserved c =
       rw e (length_filled _ a.w L.wide (omega (arith, L.invariant.2, c.requires.3)) ∙ L.invariant.2),
     )
 
+pub loop-k-init : goal.loop-k-init
+unfolding partial held_sum
+loop-k-init c =
+    let e = c.start.ensures in
+    (omega arith, e ∙ rw (filled_behind _ _ _ _ e), refl)
+
 pub returns : goal.returns
 returns c =
     let a = c.args in
     let L = c.loop-k in
     let k = le_antisymm L.invariant.0 c.loop-k-test.false in
-    rw (filled_behind _ a.w _ _ c.start_at.ensures) at (rw k at L.invariant.1)
+    rw (filled_behind _ a.w _ _ c.start.ensures) at (rw k at L.invariant.1)
     ∙ ap (λ (l : List ℤ). l ++ drop a.w a.wide.now) (tabulate_ext _ _ a.w (λ u _. all_taps a.across.offsets a.across.weights (at_offset a.sums.now) a.across.len u))

@@ -19,16 +19,6 @@ use borrow.Author.Rules.{rules}
 use Rattle.exact_weights.proofs.sums_down.Invariants.{reached}
 use Rattle.exact_weights.proofs.sums_down.Goals as goal
 
-pub start-requires : goal.start-requires
-start-requires c =
-    c.requires.4
-
-pub loop-k-init : goal.loop-k-init
-unfolding partial held_sum
-loop-k-init c =
-    let e = c.start.ensures in
-    (omega arith, e ∙ rw (filled_behind _ _ _ _ e), refl, refl)
-
 pub bounds-offsets-k : goal.bounds-offsets-k
 bounds-offsets-k c =
     omega (arith, c.loop-k-test.true, c.requires.1.few)
@@ -85,11 +75,17 @@ loop-k-preserved c =
       rw r (length_filled _ n L.row (omega (arith, L.invariant.3, p.3)) ∙ L.invariant.3),
     )
 
+pub loop-k-init : goal.loop-k-init
+unfolding partial held_sum
+loop-k-init c =
+    let e = c.start_at.ensures in
+    (omega arith, e ∙ rw (filled_behind _ _ _ _ e), refl, refl)
+
 pub returns : goal.returns
 returns c =
     let a = c.args in
     let L = c.loop-k in
     let k = le_antisymm L.invariant.0 c.loop-k-test.false in
     let n = a.frame.width + 30 in
-    rw (filled_behind _ n _ _ c.start.ensures) at (rw k at L.invariant.1)
+    rw (filled_behind _ n _ _ c.start_at.ensures) at (rw k at L.invariant.1)
     ∙ ap (λ (l : List ℤ). l ++ drop n a.sums.now) (tabulate_ext _ _ n (λ x _. all_taps a.down.offsets a.down.weights (reached a.frame a.plane.now a.v) a.down.len x))

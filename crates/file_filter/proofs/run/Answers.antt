@@ -44,7 +44,7 @@ filter_raster-requires c =
     let a = c.args in
     let p = c.requires in
     let still = a.still.now in
-    let one = c.put_header-len.new.height.1.1.0 in
+    let one = c.put_header-len.new.out in
     let len = c.put_header-len.result in
     (p.0, p.1, p.2, rw (tail_mid (length still - a.w * a.h * a.channels) still, length-drop) (omega (arith, p.3)), rw (tail_mid len one, length-drop) (omega (arith, c.out-1.given, p.4, c.put_header-len.ensures.0)))
 
@@ -53,4 +53,4 @@ unfolding file_size
 returns c =
     let a = c.args in
     let h = c.put_header-len.ensures in
-    raster_behind (filtered_raster a.w a.h a.channels (recipe_stages a.recipe.now)) (header_bytes a.w a.h a.channels) a.still.now a.out.now c.put_header-len.new.height.1.1.0 _ c.put_header-len.result (length a.still.now - a.w * a.h * a.channels) (a.w * a.h * a.channels) h.0 h.1 c.filter_raster.ensures
+    raster_behind (filtered_raster a.w a.h a.channels (recipe_stages a.recipe.now)) (header_bytes a.w a.h a.channels) a.still.now a.out.now c.put_header-len.new.out _ c.put_header-len.result (length a.still.now - a.w * a.h * a.channels) (a.w * a.h * a.channels) h.0 h.1 c.filter_raster.ensures

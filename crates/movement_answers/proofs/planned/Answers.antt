@@ -20,13 +20,13 @@ pub overflow_mul-width : goal.overflow_mul-width
 overflow_mul-width c =
     let a = c.args in
     let p = pictured archive a.recipe1.now a.still1.now (sym c.picture_answer-first.ensures ∙ c.in-Picture.is) in
-    record { fits = omega (arith, (shown a.still1.now p.read).plane-small) }
+    record { fits = omega (arith, (shown a.still1.now p.read).plane_small) }
 
 pub overflow_mul-width-in-Passed : goal.overflow_mul-width-in-Passed
 overflow_mul-width-in-Passed c =
     let a = c.args in
     let p = pictured archive a.recipe1.now a.still1.now (sym c.picture_answer-first.ensures ∙ c.in-Picture.is) in
-    record { fits = omega (arith, (shown a.still1.now p.read).raster-small) }
+    record { fits = omega (arith, (shown a.still1.now p.read).raster_small) }
 
 pub returns-in-Refused : goal.returns-in-Refused
 returns-in-Refused c =

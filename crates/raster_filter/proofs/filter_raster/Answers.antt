@@ -58,7 +58,7 @@ loop-c-preserved c =
       c.rows-1.given ∙ L.invariant.2,
       c.sums-1.given ∙ L.invariant.3,
       c.out-1.given ∙ L.invariant.4,
-      placed-more a.channels n (planes a.recipe.now a.w a.h a.channels n raster) a.out.now L.c L.out c.put_channel.new.n.1.1.1.0 c.run_stages.new.w.1.1.0 L.invariant.5 c.put_channel.ensures
+      placed-more a.channels n (planes a.recipe.now a.w a.h a.channels n raster) a.out.now L.c L.out c.put_channel.new.dst c.run_stages.new.work L.invariant.5 c.put_channel.ensures
           (λ i b. sym (get_or-take n _ i 0 b) ∙ ap (λ (l : List ℕ). get_or l i 0) front) p.1,
     )
 

@@ -17,7 +17,3 @@ slice_bounds-run_line-end g c =
 pub slice_bounds-run_line-end-in-loop-at : goal.slice_bounds-run_line-end-in-loop-at
 slice_bounds-run_line-end-in-loop-at g c =
     sym (length-take-le _ _ (omega (arith, c.lent-numbers.ensures, c.loop-at.invariant.1)))
-
-pub loop-at-preserved : goal.loop-at-preserved
-loop-at-preserved g c =
-    (length_front c.loop-at.rasters c.run_line-held.new.line.1.1.0 c.lent-bytes.result c.rasters-in-loop-at-1.given ∙ c.loop-at.invariant.0, length_front c.loop-at.labels c.run_line-held.new.line.1.1.1.0 c.lent-numbers.result c.labels-in-loop-at-1.given ∙ c.loop-at.invariant.1)

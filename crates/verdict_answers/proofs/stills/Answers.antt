@@ -11,7 +11,7 @@ returns-then-not-same_size c =
 
 pub overflow_mul-width : goal.overflow_mul-width
 overflow_mul-width c =
-    record { fits = omega (arith, (shown c.args.first.now (sym c.read_still.ensures ∙ c.in-Picture.is)).plane-small) }
+    record { fits = omega (arith, (shown c.args.first.now (sym c.read_still.ensures ∙ c.in-Picture.is)).plane_small) }
 
 pub returns-then-works-width : goal.returns-then-works-width
 returns-then-works-width c =

@@ -14,10 +14,6 @@ next_start-upper-requires c =
     let p = c.requires in
     (p.0, p.1, p.2, (p.6.0 + (2 * c.args.window.s + 1), p.6.1))
 
-pub offset_bounds-sums-upper : goal.offset_bounds-sums-upper
-offset_bounds-sums-upper c =
-    record { fits = omega (arith, sub-mean-row c) }
-
 -- the upper edge lies in the sums
 pub slice_bounds-mean_row-count : goal.slice_bounds-mean_row-count
 slice_bounds-mean_row-count c =
@@ -27,13 +23,16 @@ slice_bounds-mean_row-count c =
     let eu = c.next_start-upper.ensures (v + (2 * a.window.s + 1)) p.6.1 in
     omega (arith, upper_fits a.w a.window v a.lower _ p.6.1 eu p.3)
 
-pub slice_bounds-mean_row-start : goal.slice_bounds-mean_row-start
-slice_bounds-mean_row-start c =
-    sub-mean-row c
+pub offset_bounds-sums-upper : goal.offset_bounds-sums-upper
+offset_bounds-sums-upper c =
+    let a = c.args in
+    let p = c.requires in
+    let v = p.6.0 in
+    let eu = c.next_start-upper.ensures (v + (2 * a.window.s + 1)) p.6.1 in
+    record { fits = omega (arith, upper_fits a.w a.window v a.lower _ p.6.1 eu p.3) }
 
-pub offset_bounds-sums-lower : goal.offset_bounds-sums-lower
-offset_bounds-sums-lower c =
-    record { fits = omega (arith, sub-mean-row-2 c) }
+pub slice_bounds-mean_row-start : goal.slice_bounds-mean_row-start
+slice_bounds-mean_row-start c = slice_bounds-mean_row-count c
 
 -- and so does the lower one
 pub slice_bounds-mean_row-count-2 : goal.slice_bounds-mean_row-count-2
@@ -45,8 +44,7 @@ slice_bounds-mean_row-count-2 c =
     omega (arith, lower_fits a.w a.window v a.lower _ p.6.1 eu p.3)
 
 pub slice_bounds-mean_row-start-2 : goal.slice_bounds-mean_row-start-2
-slice_bounds-mean_row-start-2 c =
-    sub-mean-row-2 c
+slice_bounds-mean_row-start-2 c = slice_bounds-mean_row-count-2 c
 
 pub mean_row-requires : goal.mean_row-requires
 unfolding corners_at Model.area
