@@ -19,7 +19,7 @@ reach-here-requires c =
     let a = c.args in
     let p = c.requires in
     let L = c.loop-u in
-    level-there a.frame a.plane.now a.window.r a.window.s a.p L.u p.6.0 p.1 p.2 p.3 p.4 L.counts (rw p.6.1 at L.invariant.1) L.at (omega (arith, c.well_formed)) (λ i. omega (arith, c.type_inv.rows i)) L.invariant.2
+    level-there a.frame a.plane.now a.window.r a.window.s a.p L.u p.6.0 p.1 p.2 p.3 p.4 L.counts (rw p.6.1 at L.invariant.1) L.at (omega (arith, c.well_formed)) (λ i. omega (arith, c.type_inv.plane i)) L.invariant.2
 
 pub bounds-dst-u : goal.bounds-dst-u
 bounds-dst-u c =

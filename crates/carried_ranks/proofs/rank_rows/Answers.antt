@@ -5,7 +5,7 @@ use native.Mathlib.Omega.{arith}
 use mathlib.Core.Path.{◌≡◌, refl}
 use Rattle.frame.specs.Framed.{worked}
 use Rattle.lists.proofs.Raster.{rows_none}
-use Rattle.carried_ranks.proofs.Rows.{behind_rows, rows_next, rows_front}
+use Rattle.kept_planes.proofs.Planes.{behind_rows, rows_next, rows_front}
 use borrow.Author.Rules.{rules}
 use Rattle.carried_ranks.proofs.rank_rows.Goals as goal
 

@@ -71,7 +71,7 @@ window_sums-requires c =
       p.0.width.1,
       rw (tail, length-drop) (omega (arith, L.invariant.2, p.0.width.1, p.1)),
       omega (arith, L.invariant.3, p.0.width.1),
-      λ i b. rw tail (columns_fit a.frame a.plane.now L.sums a.window.r a.window.s L.v p.1 p.2 L.invariant.4 (omega (arith, c.well_formed)) (λ j. omega (arith, (c.type_inv.received j).fits)) i b),
+      λ i b. rw tail (columns_fit a.frame a.plane.now L.sums a.window.r a.window.s L.v p.1 p.2 L.invariant.4 (omega (arith, c.well_formed)) (λ j. omega (arith, (c.type_inv.plane j).fits)) i b),
     )
 
 pub returns-then-not-row_near : goal.returns-then-not-row_near

@@ -1,5 +1,4 @@
 -- `exact_weights::ratios_near` meets its contract: row by row, and the first row that is not near decides. Assumes nothing.
-use Prim.Native.Nat.{◌-◌}
 use native.Mathlib.Omega.{arith}
 use mathlib.Core.Bool.{not}
 use mathlib.Core.Path.{refl, ap}
@@ -40,7 +39,7 @@ pub row_near-requires : goal.row_near-requires
 row_near-requires c =
     let p = c.requires in
     let t = c.loop-v-test.true in
-    (p.0.width.0, p.0.width.1, omega (arith, t, p.0.height.1), omega (arith, p.0.width.1, c.loop-v.invariant.4, c.wide-in-loop-v-1.given), rows_inside p.3 t, c.denominator-n.ensures.1, p.4)
+    (p.0.width.0, p.0.width.1, omega (arith, t, p.0.height.1), omega (arith, p.0.width.1, c.loop-v.invariant.4), rows_inside p.3 t, c.denominator-n.ensures.1, p.4)
 
 pub returns : goal.returns
 returns c =

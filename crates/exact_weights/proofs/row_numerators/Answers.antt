@@ -37,7 +37,7 @@ slice_bounds-sums_across-end-2 c =
 
 pub sums_across-requires : goal.sums_across-requires
 sums_across-requires c =
-        let a = c.args in
+    let a = c.args in
     let p = c.requires in
     let n = a.frame.width + 30 in
     let t = front-is _ _ _ _ c.sums_down.ensures in (

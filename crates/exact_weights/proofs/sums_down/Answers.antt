@@ -1,5 +1,5 @@
 -- `exact_weights::sums_down` meets its contract: tap by tap, each with the padded row that it reaches. Assumes nothing.
-use Prim.Native.Nat.{◌+◌, ◌-◌}
+use Prim.Native.Nat.{◌+◌}
 use native.Mathlib.Nat.{le_antisymm}
 use native.Mathlib.Omega.{arith}
 use mathlib.Core.Path.{◌≡◌, refl, ap, ◌∙◌}
@@ -42,7 +42,7 @@ bounds-weights-k c =
 
 pub add_tap-requires : goal.add_tap-requires
 add_tap-requires c =
-        let a = c.args in
+    let a = c.args in
     let p = c.requires in
     let L = c.loop-k in
     let n = a.frame.width + 30 in
@@ -61,7 +61,7 @@ add_tap-requires c =
 
 pub loop-k-preserved : goal.loop-k-preserved
 loop-k-preserved c =
-        let a = c.args in
+    let a = c.args in
     let p = c.requires in
     let L = c.loop-k in
     let n = a.frame.width + 30 in
