@@ -26,7 +26,7 @@ GROUPS = {
     "readme": ("README's examples", readme.try_readme),
     "python": ("python/test_hejslopi.py", suites.python),
     "wordings": ("the meaning of each refusal, wherever it is said", wordings.try_wordings),
-    "tools": ("tools/expected; the gate holds the layout of the sources", scripts.try_tools),
+    "tools": ("tools/expected, tools/build; the gate holds the layout of the sources", scripts.try_tools),
     "cargo": ("how the Rust package finds its library", cargo_build.try_build),
     "rust": ("cargo test", suites.rust),
 }

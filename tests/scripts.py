@@ -41,5 +41,13 @@ def expected_again(tally):
             tally.judge(where, stopped or folders.apart(made, kept))
 
 
+def build_called_wrongly(tally):
+    """tools/build without a word, and with another one. What it builds, the groups filter and cargo try."""
+    for words in ([], ["programs"]):
+        done = subprocess.run([os.path.join("tools", "build")] + words, stdin=subprocess.DEVNULL, stdout=subprocess.PIPE, stderr=subprocess.PIPE, universal_newlines=True)
+        tally.equal("tools/build with %d words" % len(words), (done.returncode, done.stdout, done.stderr), (2, "", "usage: tools/build program|library\n"))
+
+
 def try_tools(tally):
     expected_again(tally)
+    build_called_wrongly(tally)

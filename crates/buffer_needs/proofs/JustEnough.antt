@@ -14,10 +14,8 @@ use Rattle.refusals.specs.declared.Verdict.TheVariants.{Passed}
 use Rattle.refusals.proofs.Passed.{passed, passed_all}
 use Rattle.model.specs.Tolerance.{tolerance}
 use Rattle.answers.specs.declared.Still.{Still}
-use Rattle.answers.specs.declared.Still.TheVariants as Still
 use Rattle.answers.specs.declared.Needs.TheVariants as Needs
 use Rattle.answers.specs.declared.File.{File}
-use Rattle.answers.specs.declared.File.TheVariants as File
 use Rattle.still_reader.specs.Head.{head_of}
 use Rattle.still_reader.proofs.Headed.{read_headed, headed_read}
 use Rattle.recipe.specs.Recipe.{recipe_tests, recipe_stages}

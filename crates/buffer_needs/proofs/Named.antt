@@ -8,7 +8,6 @@ use Rattle.refusals.proofs.Passed.{passed_whole, refused-whole}
 use Rattle.model.specs.Stage.{Stage}
 use Rattle.model.specs.Tolerance.{tolerance}
 use Rattle.answers.specs.declared.Still.{Still}
-use Rattle.answers.specs.declared.Still.TheVariants as Still
 use Rattle.answers.specs.declared.Recipe.TheVariants as Recipe
 use Rattle.answers.specs.declared.Needs.TheVariants.{Refused}
 use Rattle.still_reader.specs.Head.{head_of}

@@ -8,7 +8,6 @@ use Rattle.model.specs.Border.{nearest}
 use Rattle.model.specs.Stage.{Work, box, rank, outline, Stage, stage}
 use Rattle.model.specs.Tolerance.{growth, after_stage, tolerance_from, tolerance}
 use Rattle.answers.specs.declared.Still.{Still}
-use Rattle.answers.specs.declared.Still.TheVariants as Still
 use Rattle.answers.specs.declared.Needs.{Needs}
 use Rattle.answers.specs.declared.Needs.TheVariants.{Refused, Lengths}
 use Rattle.header_writer.specs.Heading.{decimal_in, decimal, magic_line, header_bytes}

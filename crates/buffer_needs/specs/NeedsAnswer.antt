@@ -4,7 +4,6 @@ use Rattle.refusals.specs.Refusal.{Test, tested}
 use Rattle.model.specs.Stage.{Stage}
 use Rattle.model.specs.Tolerance.{tolerance}
 use Rattle.answers.specs.declared.Still.{Still}
-use Rattle.answers.specs.declared.Still.TheVariants as Still
 use Rattle.answers.specs.declared.Needs.{Needs}
 use Rattle.answers.specs.declared.Needs.TheVariants.{Refused, Lengths}
 use Rattle.still_reader.specs.Head.{head_of}

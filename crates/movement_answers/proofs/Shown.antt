@@ -1,26 +1,23 @@
 -- What two runs that are not refused have shown. Assumes nothing.
 use Prim.Native.Nat.{ℕ, ◌*◌, ◌≤◌}
 use native.Mathlib.Omega.{arith}
-use mathlib.Core.Path.{◌≡◌, refl, sym, ap, ◌∙◌}
+use mathlib.Core.Path.{◌≡◌, refl, sym, ◌∙◌}
 use mathlib.Core.Bool.{true, false, ◌&&◌, and-eq-true_iff}
-use mathlib.Core.List.{◌∷◌, ◌++◌}
-use lib.Dec.{leb, eqb}
+use lib.Dec.{eqb}
 use borrow.Author.Tests.{leb-true, eqb-true}
-use Rattle.refusals.specs.Refusal.{movement_limit, sizes_differ}
 use Rattle.refusals.proofs.Passed.{AllPass, passed, passed_all, passed_whole, refused-whole, refused_tests, all_append}
 use Rattle.answers.specs.declared.File.{File}
-use Rattle.answers.specs.declared.File.TheVariants as File
 use Rattle.answers.specs.declared.Movement.TheVariants as Movement
 use Rattle.filter_answers.specs.Limits.{archive}
-use Rattle.filter_answers.specs.FileAnswer.{file_size, lent_tests}
+use Rattle.filter_answers.specs.FileAnswer.{lent_tests}
 use Rattle.filter_answers.proofs.FileAccepted.{pictured, file_done}
 use Rattle.movement.specs.Order.{in_order}
 use Rattle.movement_answers.specs.Run.{Run, stages, asked, file_of}
-use Rattle.movement_answers.specs.MovementAnswer.{movement_tests, length_of, motions_between, counts, movement_answer}
+use Rattle.movement_answers.specs.MovementAnswer.{movement_tests, motions_between, counts, movement_answer}
 use Rattle.movement_answers.specs.declared.Pair.{Pair}
 use Rattle.movement_answers.specs.declared.Plan.{Plan}
 use Rattle.movement_answers.specs.declared.Plan.TheVariants.{Refused, Runs}
-use Rattle.movement_answers.specs.Plan.{sample_count, pair_of, plan_of}
+use Rattle.movement_answers.specs.Plan.{pair_of, plan_of}
 
 -- two pictures of one size, W by H of c channels, and room for both
 pub record Shown (L : ℕ) (a b : Run) (p : Pair) : Type 0 where

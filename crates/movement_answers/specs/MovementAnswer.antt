@@ -3,7 +3,6 @@ use Rattle.std.specs.Prelude.{ℕ, List}
 use Rattle.refusals.specs.Refusal.{Test, tested}
 use Rattle.model.specs.Tolerance.{tolerance}
 use Rattle.answers.specs.declared.File.{File}
-use Rattle.answers.specs.declared.File.TheVariants as File
 use Rattle.answers.specs.declared.Movement.{Movement}
 use Rattle.answers.specs.declared.Movement.TheVariants.{Refused, Counts}
 use Rattle.filter_answers.specs.FileAnswer.{lent_tests}

@@ -3,7 +3,6 @@ use Rattle.std.specs.Prelude.{ℕ, ◌*◌}
 use Rattle.refusals.specs.Refusal.{tested}
 use Rattle.model.specs.Tolerance.{tolerance}
 use Rattle.answers.specs.declared.File.{File}
-use Rattle.answers.specs.declared.File.TheVariants as File
 use Rattle.movement_answers.specs.declared.Pair.{Pair}
 use Rattle.movement_answers.specs.declared.Plan.{Plan}
 use Rattle.movement_answers.specs.declared.Plan.TheVariants.{Refused, Runs}

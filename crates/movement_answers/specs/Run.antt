@@ -1,5 +1,5 @@
 -- One of two runs of the file call with the archive's limits: a recipe, a still and what is lent to it.
-use Rattle.std.specs.Prelude.{ℕ, ◌*◌, List, []}
+use Rattle.std.specs.Prelude.{ℕ, List, []}
 use Rattle.model.specs.Stage.{Stage}
 use Rattle.still_reader.specs.Read.{still_of}
 use Rattle.recipe.specs.Recipe.{recipe_stages}

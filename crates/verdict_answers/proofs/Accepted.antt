@@ -10,7 +10,6 @@ use Rattle.refusals.specs.Refusal.{verdict, verdict_stage}
 use Rattle.refusals.specs.declared.Verdict.TheVariants.{Passed}
 use Rattle.refusals.proofs.Passed.{passed, all_append, passed_all}
 use Rattle.answers.specs.declared.Still.{Still}
-use Rattle.answers.specs.declared.Still.TheVariants as Still
 use Rattle.still_reader.specs.Read.{still_of}
 use Rattle.recipe.specs.Recipe.{recipe_tests}
 use Rattle.verdict_answers.specs.declared.Plan.TheVariants.{Refused, Compare}

@@ -15,7 +15,6 @@ use Rattle.model.specs.Stage.{Work, weighted, box, rank, stage}
 use Rattle.model.specs.Exact.{denominator, numerator, exact_plane, exact_from, denominator_from, exact, exact_denominator}
 use Rattle.model.specs.Within.{distance}
 use Rattle.answers.specs.declared.Still.{Still}
-use Rattle.answers.specs.declared.Still.TheVariants as Still
 use Rattle.still_reader.specs.Head.{channels_of, magic_test, head_of}
 use Rattle.still_reader.specs.Read.{still_of}
 use Rattle.recipe_bytes.specs.Bytes.{there}

@@ -3,7 +3,6 @@ use Rattle.std.specs.Prelude.{ℕ, ◌*◌, Bool, ◌&&◌, ◌||◌, List, [], 
 use Rattle.refusals.specs.Refusal as Refusal
 use Rattle.refusals.specs.Refusal.{Test, tested}
 use Rattle.answers.specs.declared.Still.{Still}
-use Rattle.answers.specs.declared.Still.TheVariants as Still
 use Rattle.still_reader.specs.Read.{still_of}
 use Rattle.recipe_bytes.specs.Bytes.{at}
 use Rattle.recipe.specs.Recipe.{recipe_tests}

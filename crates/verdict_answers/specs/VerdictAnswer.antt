@@ -5,7 +5,6 @@ use Rattle.model.specs.Exact.{exact, exact_denominator}
 use Rattle.channels.specs.Channel.{channel}
 use Rattle.recipe.specs.Recipe.{recipe_stages}
 use Rattle.answers.specs.declared.Judged.{Judged}
-use Rattle.answers.specs.declared.Judged.TheVariants as Judged
 use Rattle.near_rows.specs.Near.{near}
 use Rattle.near_rows.specs.Everywhere.{everywhere}
 use Rattle.near_rows.specs.Places.{received_at}

@@ -9,7 +9,6 @@ use Rattle.answers.specs.declared.Judged.TheVariants.{Refused, Verdict}
 use Rattle.room.specs.Room.{Kept}
 use Rattle.near_rows.specs.Places.{received_at}
 use Rattle.verdict_answers.specs.declared.Plan.{Plan}
-use Rattle.verdict_answers.specs.declared.Plan.TheVariants as Plan
 use Rattle.verdict_answers.specs.Plan.{plan_of}
 use Rattle.verdict_answers.specs.VerdictAnswer.{exact_at, verdict_answer}
 

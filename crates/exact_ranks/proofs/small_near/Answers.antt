@@ -2,7 +2,8 @@
 use Prim.Native.Nat.{ℕ, ◌+◌, ◌*◌, ◌-◌, ◌≤◌}
 use native.Mathlib.Nat.{mul-le-mul}
 use native.Mathlib.Omega.{arith}
-use mathlib.Core.Path.{◌≡◌, refl}
+use mathlib.Core.Bool.{not}
+use mathlib.Core.Path.{◌≡◌, refl, ap}
 use Rattle.model_laws.proofs.Window.{area-le}
 use Rattle.near_rows.proofs.RowLaws.{no_rows, one-row-more, row-not-near, all-rows-near, rows_inside}
 use Rattle.exact_ranks.proofs.Ranks.{rank_at, row_ranks}
@@ -60,14 +61,14 @@ levels_near-requires c =
     let p = c.requires in
     let L = c.loop-v in
     let t = c.loop-v-test.true in
-    (p.0.width.0, p.0.width.1, omega (arith, t, p.0.height.1), omega (arith, c.levels-in-loop-v-1.given, L.invariant.5, p.0.width.1), omega (arith, L.invariant.6, p.0.width.1), rows_inside p.5 t, p.6)
+    (p.0.width.0, p.0.width.1, omega (arith, t, p.0.height.1), omega (arith, L.invariant.5, p.0.width.1), omega (arith, L.invariant.6, p.0.width.1), rows_inside p.5 t, p.6)
 
 pub returns-then-not-levels_near : goal.returns-then-not-levels_near
 returns-then-not-levels_near c =
     let a = c.args in
     let L = c.loop-v in
     let ranks = row_ranks a.frame a.window.r a.window.s a.p L.v a.plane.now L.levels _ c.rank_row.ensures.0 in
-    row-not-near a.c 1 a.frame.width a.frame.height a.channel a.received.now (rank_at a.frame a.window.r a.window.s a.p a.plane.now) L.v _ _ ranks c.levels_near.ensures c.loop-v-test.true c.if-not-levels_near.true
+    row-not-near a.c 1 a.frame.width a.frame.height a.channel a.received.now (rank_at a.frame a.window.r a.window.s a.p a.plane.now) L.v _ _ ranks c.levels_near.ensures c.loop-v-test.true (ap not c.if-not-levels_near.true)
 
 pub loop-v-preserved : goal.loop-v-preserved
 loop-v-preserved c =
@@ -75,7 +76,7 @@ loop-v-preserved c =
     let L = c.loop-v in
     let ranks = row_ranks a.frame a.window.r a.window.s a.p L.v a.plane.now L.levels _ c.rank_row.ensures.0 in (
       omega (arith, c.loop-v-test.true),
-      one-row-more a.c 1 a.frame.width a.frame.height a.channel a.received.now (rank_at a.frame a.window.r a.window.s a.p a.plane.now) L.v _ _ ranks c.levels_near.ensures L.invariant.1 c.if-not-levels_near.false,
+      one-row-more a.c 1 a.frame.width a.frame.height a.channel a.received.now (rank_at a.frame a.window.r a.window.s a.p a.plane.now) L.v _ _ ranks c.levels_near.ensures L.invariant.1 (ap not c.if-not-levels_near.false),
       c.rank_row.ensures.1,
       search rules,
       search rules,

@@ -3,7 +3,7 @@ use Prim.Native.Nat.{◌+◌, ◌*◌, ◌-◌, ◌≤◌}
 use mathlib.Core.Path.{◌≡◌}
 use lib.ListN.{length}
 use Rattle.near_rows.proofs.RowLaws.{RowsNear}
-use Rattle.small_rank_rows.specs.HeldRows.{HeldRows}
+use Rattle.small_ranks.specs.HeldRows.{HeldRows}
 use Rattle.exact_ranks.proofs.Ranks.{rank_at}
 use Rattle.exact_ranks.proofs.small_near.Given as goal
 

@@ -19,4 +19,4 @@ pub returns-in-Picture : goal.returns-in-Picture
 returns-in-Picture c =
     let a = c.args in
     file_filters a.limits a.recipe.now a.still.now a.work.now a.rows.now a.sums.now a.out.now _ (sym c.in-Picture.is ∙ c.file_answer-answer.ensures) refl
-    (λ i. omega (arith, (c.type_inv.still i).fits)) (λ i. omega (arith, (c.type_inv.still i).fits)) c.run.ensures
+    (λ i. omega (arith, (c.type_inv.recipe i).fits)) (λ i. omega (arith, (c.type_inv.still i).fits)) c.run.ensures

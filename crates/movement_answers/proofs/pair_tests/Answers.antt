@@ -1,6 +1,5 @@
 -- `movement_answers::pair_tests` meets its contract: the sizes, then what is lent to either run. Assumes nothing.
 use mathlib.Core.Path.{sym, ◌∙◌}
-use borrow.Author.Tests.{not-true, not-false}
 use Rattle.refusals.specs.Refusal.{verdict}
 use Rattle.movement_answers.proofs.Plans.{lent_to_both}
 use Rattle.movement_answers.proofs.pair_tests.Goals as goal

@@ -18,4 +18,4 @@ pub returns-in-Tolerance : goal.returns-in-Tolerance
 returns-in-Tolerance c =
     let a = c.args in
     plane_filters a.recipe.now a.w a.h a.plane.now a.work.now a.rows.now a.sums.now a.out.now _ c.plane_answer-answer.ensures c.in-Tolerance.is
-    (λ i. omega (arith, (c.type_inv.plane i).fits)) (λ i. omega (arith, (c.type_inv.plane i).fits)) c.run.ensures
+    (λ i. omega (arith, (c.type_inv.recipe i).fits)) (λ i. omega (arith, (c.type_inv.plane i).fits)) c.run.ensures

@@ -24,12 +24,12 @@ pub run_stages-requires : goal.run_stages-requires
 run_stages-requires c =
     let a = c.args in
     let p = c.requires.0 in
-    (p.width.0, p.width.1, p.height.0, p.height.1, rw (mul_comm a.h a.w) (omega (arith, c.work-1.given, p.enough-work)), rw (mul_comm (a.h + 30) a.w) p.enough-rows, p.accepted, p.enough-sums)
+    (p.width.0, p.width.1, p.height.0, p.height.1, rw (mul_comm a.h a.w) (omega (arith, p.enough-work)), rw (mul_comm (a.h + 30) a.w) p.enough-rows, p.accepted, p.enough-sums)
 
 pub copy_front-requires-2 : goal.copy_front-requires-2
 copy_front-requires-2 c =
     let p = c.requires in
-    (omega (arith, c.work-2-1.given, c.work-1.given, p.0.enough-work), p.2)
+    (omega (arith, p.0.enough-work), p.2)
 
 pub returns : goal.returns
 returns c =

@@ -6,4 +6,4 @@ use Rattle.program_filter.proofs.filter_still.Goals as goal
 
 pub returns : goal.returns
 returns c =
-    still_filters c.filter_file.ensures (slice-aggregate-filter-file c) (slice-aggregate-filter-file-2 c) (slice-aggregate-filter-file-3 c) (search rules) refl
+    still_filters {w = 32768} {r = 16384} {s = 16384} {o = 65536} c.filter_file.ensures (search rules) (search rules) (search rules) (search rules) refl

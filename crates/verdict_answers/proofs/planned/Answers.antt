@@ -1,6 +1,6 @@
 -- `verdict_answers::planned` meets its contract: the distance, the recipe's own tests, its form, and then the stills. Assumes nothing.
 use mathlib.Core.Path.{sym, ◌∙◌}
-use borrow.Author.Tests.{le-leb, lt-leb, not-true, not-false}
+use borrow.Author.Tests.{le-leb, lt-leb}
 use Rattle.recipe.proofs.Accepted.{recipe_read, recipe_refused}
 use Rattle.verdict_answers.proofs.Plans.{plan_distance, plan_recipe, plan_other, plan_stills}
 use Rattle.verdict_answers.proofs.planned.Goals as goal

@@ -1,7 +1,7 @@
 -- `verdict_answers::stills` meets its contract: still by still, and then both. Assumes nothing.
 use native.Mathlib.Omega.{arith}
 use mathlib.Core.Path.{sym, ◌∙◌}
-use borrow.Author.Tests.{le-leb, lt-leb, not-true, not-false}
+use borrow.Author.Tests.{le-leb, lt-leb}
 use Rattle.filter_answers.proofs.FileAccepted.{shown}
 use Rattle.verdict_answers.proofs.stills.Goals as goal
 

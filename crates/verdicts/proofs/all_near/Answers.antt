@@ -1,13 +1,11 @@
 -- `verdicts::all_near` meets its contract: all channels so far are near, and the first that is not decides. Assumes nothing.
-use Prim.Native.Nat.{ℕ, ◌*◌, ◌-◌, ◌≤◌, ◌<◌}
+use Prim.Native.Nat.{ℕ, ◌*◌, ◌≤◌, ◌<◌}
 use native.Mathlib.Nat.{le_antisymm, mul_comm, mul-le-mul}
 use native.Mathlib.Omega.{arith}
 use mathlib.Core.Path.{◌≡◌, refl, sym, ◌∙◌}
-use mathlib.Core.Bool.{true}
 use mathlib.Core.List.{List, ◌++◌}
 use lib.ListN.{length, take, drop, length-append}
 use lib.Seq.{take_at}
-use borrow.Author.Tests.{not-true, not-false}
 use Rattle.lists.proofs.Tabulate.{length-tabulate}
 use Rattle.channels.specs.Channel.{channel}
 use Rattle.recipe.specs.Recipe.{recipe_stages}
