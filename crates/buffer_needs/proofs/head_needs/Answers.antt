@@ -12,8 +12,8 @@ file_size-size-requires c =
 
 pub needs-need-requires : goal.needs-need-requires
 needs-need-requires c =
-    let h = headed c.args.still.now (sym c.read_head.ensures ∙ c.in-Picture.is) in
-    ((side-le _ h.width).1, (side-le _ h.height).1, c.requires.0)
+    let v = headed c.args.still.now (sym c.read_head.ensures ∙ c.in-Picture.is) in
+    ((side-le _ v.width).1, (side-le _ v.height).1, c.requires.0)
 
 pub returns-in-Refused : goal.returns-in-Refused
 returns-in-Refused c =

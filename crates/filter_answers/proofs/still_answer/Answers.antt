@@ -1,6 +1,6 @@
 -- `filter_answers::still_answer` meets its contract, by what the still is read as. Assumes nothing.
 use native.Mathlib.Omega.{arith}
-use mathlib.Core.Path.{sym, refl, ◌≡◌, ◌∙◌}
+use mathlib.Core.Path.{sym, ◌∙◌}
 use Rattle.filter_answers.proofs.FileAccepted.{shown, still-refused, still_limited, still_done}
 use Rattle.filter_answers.proofs.still_answer.Goals as goal
 
@@ -25,4 +25,3 @@ returns-in-Refused c =
 pub returns-else-most_samples-width : goal.returns-else-most_samples-width
 returns-else-most_samples-width c =
     sym (still_done c.args.limits c.args.tolerance (sym c.read_still.ensures ∙ c.in-Picture.is) (omega (arith, c.if-most_samples-width.false)) ∙ rw c.file_size.ensures)
-
