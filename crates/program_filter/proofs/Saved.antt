@@ -1,12 +1,11 @@
 -- What of the file call's output is saved. Assumes nothing.
-use Prim.Native.Nat.{ℕ, ◌+◌, ◌*◌, ◌≤◌}
+use Prim.Native.Nat.{ℕ, ◌+◌, ◌≤◌}
 use native.Mathlib.Omega.{arith}
 use mathlib.Core.Path.{◌≡◌, refl, sym, ap, ◌∙◌}
 use mathlib.Core.List.{List, ◌++◌, append_assoc}
 use lib.ListN.{length, take, length-append, length-take}
 use lib.IntN.{ℤ}
 use lib.Seq.{take_at}
-use Rattle.model.specs.Stage.{Stage}
 use Rattle.answers.specs.declared.File.{File}
 use Rattle.answers.specs.declared.File.TheVariants.{Refused, Picture}
 use Rattle.still_reader.specs.Read.{still_of}

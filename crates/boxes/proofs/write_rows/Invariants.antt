@@ -3,7 +3,6 @@ use Prim.Native.Nat.{◌+◌, ◌-◌, ◌*◌}
 use mathlib.Core.Path.{◌≡◌}
 use lib.ListN.{length}
 use Rattle.lists.proofs.Stored.{StoredRows}
-use Rattle.model.specs.Window as Model
 use Rattle.model.specs.Box.{box_result}
 use Rattle.frame.specs.Framed.{neighbours}
 use Rattle.table_sizes.specs.Ring.{row_start}

@@ -6,15 +6,15 @@ use Rattle.disk_tests.proofs.Limits.{found_within}
 use Rattle.hejslopi.proofs.main.Goals as goal
 
 pub slice_bounds-recipe-end : goal.slice_bounds-recipe-end
-slice_bounds-recipe-end g c =
+slice_bounds-recipe-end c =
     omega (arith, found_within _ _ (sym c.tested.ensures ∙ c.in-Lengths.is))
 
 pub slice_bounds-filter-end : goal.slice_bounds-filter-end
-slice_bounds-filter-end g c =
+slice_bounds-filter-end c =
     sym (length-take-le _ _ (omega (arith, found_within _ _ (sym c.tested.ensures ∙ c.in-Lengths.is))))
 
 pub slice_bounds-still-end : goal.slice_bounds-still-end
-slice_bounds-still-end g c =
+slice_bounds-still-end c =
     omega (arith, found_within _ _ (sym c.tested.ensures ∙ c.in-Lengths.is))
 
 pub slice_bounds-filter-end-in-Lengths : goal.slice_bounds-filter-end-in-Lengths
