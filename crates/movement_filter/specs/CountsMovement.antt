@@ -4,7 +4,6 @@ use Rattle.model.specs.Exact.{exact, exact_denominator}
 use Rattle.header_writer.specs.Heading.{header_bytes}
 use Rattle.channels.specs.Channel.{channel}
 use Rattle.answers.specs.declared.File.{File}
-use Rattle.answers.specs.declared.File.TheVariants as File
 use Rattle.answers.specs.declared.Movement.{Movement}
 use Rattle.answers.specs.declared.Movement.TheVariants.{Refused, Counts}
 use Rattle.room.specs.Room.{Kept}

@@ -28,4 +28,3 @@ returns-in-Runs c =
     let second = run_on a.recipe2.now a.still2.now a.work.now a.rows.now a.sums.now a.out2.now in
     let plan = plan_of_runs a.limit first second c.lent_to-lent1.ensures c.lent_to-lent2.ensures c.planned.ensures in
     movement_counted a.limit first second (shown a.limit first second plan c.in-Runs.is) (λ i. omega (arith, (c.type_inv.recipe1 i).fits)) (λ i. omega (arith, (c.type_inv.recipe2 i).fits)) c.run.ensures
-
