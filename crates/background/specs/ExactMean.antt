@@ -21,7 +21,7 @@ unfoldable pub common_denominator : List Measured → ℕ
 common_denominator [] = 1
 common_denominator (k ∷ ks) = k.denominator * common_denominator ks
 
--- its numerator at place j: x/N + X/P is (x·P + N-as-X) / (N-as-P)
+-- its numerator at place j: x/N + X/P is (x·P + N·X) / (N·P)
 unfoldable pub exact_total : ℕ → List Measured → ℕ
 exact_total j [] = 0
 exact_total j (k ∷ ks) = get_or k.numerators j 0 * common_denominator ks + k.denominator * exact_total j ks

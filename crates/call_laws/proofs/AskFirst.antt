@@ -13,7 +13,6 @@ use Rattle.refusals.specs.Refusal.{room}
 use Rattle.refusals.proofs.Passed.{between}
 use Rattle.model.specs.Tolerance.{tolerance}
 use Rattle.answers.specs.declared.Still.{Still}
-use Rattle.answers.specs.declared.Still.TheVariants as Still
 use Rattle.answers.specs.declared.Needs.TheVariants.{Lengths}
 use Rattle.answers.specs.declared.File.{File}
 use Rattle.answers.specs.declared.File.TheVariants.{Refused, Picture}

@@ -12,23 +12,14 @@ use borrow.Author.Tests.{leb-true, le-leb, eqb-false, ne_eqb, not-true}
 use Rattle.refusals.proofs.Passed.{between}
 use Rattle.refusals.specs.Refusal.{Test, tested, sizes_differ, movement_limit, stage_limit, sample_limit, verdict_stage, distance_limit}
 use Rattle.answers.specs.declared.Still.{Still}
-use Rattle.answers.specs.declared.Still.TheVariants as Still
 use Rattle.answers.specs.declared.Written.{Written}
-use Rattle.answers.specs.declared.Written.TheVariants as Written
 use Rattle.answers.specs.declared.Recipe.{Recipe}
-use Rattle.answers.specs.declared.Recipe.TheVariants as Recipe
 use Rattle.answers.specs.declared.Filtered.{Filtered}
-use Rattle.answers.specs.declared.Filtered.TheVariants as Filtered
 use Rattle.answers.specs.declared.File.{File}
-use Rattle.answers.specs.declared.File.TheVariants as File
 use Rattle.answers.specs.declared.Mean.{Mean}
-use Rattle.answers.specs.declared.Mean.TheVariants as Mean
 use Rattle.answers.specs.declared.Movement.{Movement}
-use Rattle.answers.specs.declared.Movement.TheVariants as Movement
 use Rattle.answers.specs.declared.Judged.{Judged}
-use Rattle.answers.specs.declared.Judged.TheVariants as Judged
 use Rattle.answers.specs.declared.Needs.{Needs}
-use Rattle.answers.specs.declared.Needs.TheVariants as Needs
 use Rattle.model.specs.Stage.{Stage}
 use Rattle.model.specs.Tolerance.{tolerance}
 use Rattle.recipe.specs.Recipe.{recipe_tests, recipe_stages, recipe_of}
@@ -49,7 +40,6 @@ use Rattle.movement.specs.Order.{refusal_tests, same_size, in_order}
 use Rattle.movement_answers.specs.Run.{Run, stages, asked}
 use Rattle.movement_answers.specs.MovementAnswer.{movement_tests, motions_between, counts, movement_answer}
 use Rattle.verdict_answers.specs.declared.Plan.{Plan}
-use Rattle.verdict_answers.specs.declared.Plan.TheVariants as Plan
 use Rattle.verdict_answers.specs.Plan.{fit_stage, request_tests, pair_tests, stills_plan, plan_of}
 use Rattle.verdict_answers.specs.VerdictAnswer.{answer_to, verdict_answer}
 use Rattle.background.specs.Background.{Background, stills, samples}

@@ -4,16 +4,16 @@ use native.Mathlib.Omega.{arith}
 use mathlib.Core.Path.{◌≡◌, sym, ap, ◌∙◌}
 use mathlib.Core.Bool.{Bool, true, false}
 use mathlib.Core.List.{List, [], ◌∷◌}
-use lib.ListN.{length, drop}
+use lib.ListN.{drop}
 use lib.Seq.{get_or-drop, drop-drop}
 use lib.Pow.{pow_pos}
 use Rattle.refusals.specs.Refusal.{verdict}
 use Rattle.refusals.specs.declared.Verdict.TheVariants.{Passed}
 use Rattle.refusals.proofs.Passed.{AllPass, all_append, all_pass, passed_all, passed_whole}
 use Rattle.lists.proofs.Tabulate.{length-tabulate}
-use Rattle.model.specs.Kernel.{Kernel, kernel, magnitude}
+use Rattle.model.specs.Kernel.{kernel}
 use Rattle.model.specs.Binomial.{binomial}
-use Rattle.model.specs.Stage.{Stage, stage, weighted}
+use Rattle.model.specs.Stage.{stage, weighted}
 use Rattle.model.specs.Tolerance.{tolerance}
 use Rattle.model_laws.proofs.Bounds.{Limited, tolerance_gain_1, tolerance_gain_4}
 use Rattle.binomials.proofs.Taps.{binomial-magnitude}

@@ -1,4 +1,4 @@
--- The limits of a caller of `filter_file`: how many stages a recipe may have, and how many samples a plane (W-as-H).
+-- The limits of a caller of `filter_file`: how many stages a recipe may have, and how many samples a plane (W·H).
 use Rattle.std.specs.Prelude.{ℕ, ◌*◌, ◌≤◌, List, leb, length}
 use Rattle.refusals.specs.Refusal as Refusal
 use Rattle.refusals.specs.Refusal.{Test}

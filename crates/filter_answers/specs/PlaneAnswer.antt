@@ -11,7 +11,7 @@ use Rattle.answers.specs.declared.Filtered.TheVariants.{Refused, Tolerance}
 use Rattle.room.specs.declared.Lent.{Lent}
 use Rattle.room.specs.Room.{room_tests}
 
--- the tests after the recipe's, for a plane of n samples: only one stage (14), the sides (3), n too small (5) or too large (6), what is lent (20), W-as-H bytes of output in it
+-- the tests after the recipe's, for a plane of n samples: only one stage (14), the sides (3), n too small (5) or too large (6), what is lent (20), W·H bytes of output in it
 unfoldable pub plane_tests : List ℕ → ℕ → ℕ → ℕ → Lent → List Test
 plane_tests recipe W H n l =
     (eqb (at recipe 0) 1, Refusal.count)

@@ -1,9 +1,8 @@
 -- `scripts::run` is safe. Assumes nothing.
 use native.Mathlib.Omega.{arith}
-use mathlib.Core.Path.{◌≡◌, sym, ◌∙◌}
-use lib.Seq.{length-take-le, length_front}
+use mathlib.Core.Path.{sym}
+use lib.Seq.{length-take-le}
 use Prim.Native.Nat.{◌-◌}
-use lib.ListN.{length}
 use Rattle.scripts.proofs.run.Goals as goal
 
 pub slice_bounds-line-end : goal.slice_bounds-line-end

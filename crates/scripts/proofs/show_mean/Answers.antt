@@ -1,9 +1,7 @@
 -- `scripts::show_mean` is safe. Assumes nothing.
-use native.Mathlib.Omega.{arith}
-use mathlib.Core.Path.{◌≡◌, sym, ◌∙◌}
-use lib.Seq.{length-take-le, length_front}
+use mathlib.Core.Path.{sym}
+use lib.Seq.{length-take-le}
 use Prim.Native.Nat.{◌-◌}
-use lib.ListN.{length}
 use Rattle.scripts.proofs.show_mean.Goals as goal
 
 pub slice_bounds-mean_on-end : goal.slice_bounds-mean_on-end
