@@ -25,15 +25,3 @@ slice_bounds-call_on-end-then-d-le65536-2 g c =
 pub slice_bounds-call_on-end-then-d-le65536-3 : goal.slice_bounds-call_on-end-then-d-le65536-3
 slice_bounds-call_on-end-then-d-le65536-3 g c =
     sym (front 65536 _ _ (search rules))
-
-pub call_on-requires : goal.call_on-requires
-call_on-requires g c =
-    tt
-
-pub returns-then-d-le65536 : goal.returns-then-d-le65536
-returns-then-d-le65536 g c =
-    tt
-
-pub returns-else-a-le32768 : goal.returns-else-a-le32768
-returns-else-a-le32768 g c =
-    tt
