@@ -72,6 +72,6 @@ returns c =
     let room = sym c.held_room.ensures ∙ c.if-not-held_room.false in
     let absent = ap (λ (s : ℕ). ltb s a.held.count) (sym c.find.ensures) ∙ le-ltb _ _ c.if-find-count.false in
     let suits = sym c.suits_held.ensures ∙ c.if-not-suits_held.false in
-    let few = lt-ltb a.held.count 1000 (omega (arith, c.if-count-ge1000.false)) in
+    let fewer = lt-ltb a.held.count 1000 (omega (arith, c.if-count-ge1000.false)) in
     let more = sym c.room_for.ensures ∙ c.if-not-room_for.false in
-    rw (add_tests_in a.number (length a.rasters.now) (length a.labels.now) a.held a.rasters.now a.labels.now a.size.width a.size.height a.size.channels, room, absent, suits, few, more)
+    rw (add_tests_in a.number (length a.rasters.now) (length a.labels.now) a.held a.rasters.now a.labels.now a.size.width a.size.height a.size.channels, room, absent, suits, fewer, more)

@@ -2,7 +2,6 @@
 use native.Mathlib.Omega.{arith}
 use mathlib.Core.Path.{sym}
 use lib.Seq.{length-take-le}
-use Prim.Native.Nat.{◌-◌}
 use Rattle.scripts.proofs.run.Goals as goal
 
 pub slice_bounds-line-end : goal.slice_bounds-line-end

@@ -1,7 +1,6 @@
 -- `scripts::show_mean` is safe. Assumes nothing.
 use mathlib.Core.Path.{sym}
 use lib.Seq.{length-take-le}
-use Prim.Native.Nat.{◌-◌}
 use Rattle.scripts.proofs.show_mean.Goals as goal
 
 pub slice_bounds-mean_on-end : goal.slice_bounds-mean_on-end
