@@ -28,10 +28,10 @@ module _ (f : Frame) (w : Window) (samples : List ℕ) where
   entry-none x = refl
 
   -- the entry below, from the padded row between them
-  pub entry_more : (row rest : List ℕ) (a n x y : ℕ) → w.r ≤ 15 → x ≤ n → x ≤ f.width + 2 * w.r → a ≡ entry f w samples x y
+  pub entry_more : (row rest : List ℕ) (a n x y : ℕ) → x ≤ n → x ≤ f.width + 2 * w.r → a ≡ entry f w samples x y
       → row ≡ tabulate (λ i. padded f samples i (15 - w.s + y)) (f.width + 30) ++ rest
       → (a + sum (take x (take n (drop (15 - w.r) row)))) % 2 ^ 32 ≡ entry f w samples x (y + 1)
   unfolding entry extended
-  entry_more row rest a n x y hr hn hx e er =
-      let front = ap (λ (l : List ℕ). take x (drop (15 - w.r) l)) er ∙ tabulate-part (λ i. padded f samples i (15 - w.s + y)) (15 - w.r) x (f.width + 30) rest (omega arith) in
+  entry_more row rest a n x y hn hx e er =
+      let front = ap (λ (l : List ℕ). take x (drop (15 - w.r) l)) er ∙ tabulate-part (λ i. padded f samples i (15 - w.s + y)) (15 - w.r) x (f.width + 30) rest (omega (arith, hx, w.near.0)) in
       rw (e, take-take x n (drop (15 - w.r) row) hn, front, mod-add-mod, total-row (λ i j. padded f samples (15 - w.r + i) (15 - w.s + j)) x y)

@@ -7,4 +7,4 @@ use Rattle.area_tables.specs.Table.{entry}
 
 -- once row k was made: it and the 2s+1 rows above it, each in its place
 pub record HeldTable (f : Frame) (x : Window) (samples : List ℕ) (k : ℕ) (sums : List ℕ) : Type 0 where
-  pub held : (i y : ℕ) → i < table_width f.width x → y ≤ k → k < y + ring_rows x → get_or sums (row_start f.width x y + i) 0 ≡ entry f x samples i y
+  pub held : (i y : ℕ) → i < table_width f.width x.r → y ≤ k → k < y + ring_rows x → get_or sums (row_start f.width x y + i) 0 ≡ entry f x samples i y

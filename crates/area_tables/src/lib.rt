@@ -3,25 +3,12 @@
 #![tactic(auto)]
 
 ghost use Rattle.std.specs.Prelude.{◌≡◌, ◌++◌, ◌+◌, ◌*◌, ◌≤◌, length, drop};
-ghost use Rattle.lists.specs.Tabulate.{tabulate};
 ghost use Rattle.frame.specs.Framed.{Framed};
 ghost use Rattle.table_sizes.specs.Ring.{ring_size, row_start};
 ghost use Rattle.area_tables.specs.HeldTable.{HeldTable};
 
 use frame::Frame;
 use stage_values::Window;
-
-// The first n entries set to 0.
-fn clear(sums: &mut [u32], n: usize)
-    requires { n ≤ length sums.old }
-    ensures { sums.new ≡ tabulate (λ _. 0) n ++ drop n sums.old }
-{
-    let mut i = 0;
-    while i < n {
-        sums[i] = 0;
-        i += 1;
-    }
-}
 
 // The table's row k + 1 in the place of the oldest, from row k, which lies at `from`, and one row of the
 // extended frame. That is made in `row`, sums of its samples in `fours`.
@@ -35,14 +22,14 @@ pub fn next_row(
     fours: &mut [u16],
     sums: &mut [u32],
 ) -> usize
-    requires { Framed frame plane.now × (window.r ≤ 15) × (window.s ≤ 15) × (k ≤ 8222) × (from ≡ row_start frame.width window k) × (frame.width + 34 ≤ length row.old) × (frame.width + 33 ≤ length fours.old) × (ring_size frame.width window ≤ length sums.old) × HeldTable frame window plane.now k sums.old }
+    requires { Framed frame plane.now × (k ≤ 8222) × (from ≡ row_start frame.width window k) × (frame.width + 34 ≤ length row.old) × (frame.width + 33 ≤ length fours.old) × (ring_size frame.width window ≤ length sums.old) × HeldTable frame window plane.now k sums.old }
     ensures { (result ≡ row_start frame.width window (k + 1)) × HeldTable frame window plane.now (k + 1) sums.new }
 {
     let w = frame.width;
     let first = 15 - window.r;
     let to = table_sizes::next_start(w, window, from);
     frame::padded_row(frame, plane, 15 - window.s + k, row);
-    let width = table_sizes::table_width(w, window);
+    let width = table_sizes::table_width(w, window.r);
     running_sums::add_row(sums, from, to, width, &row[first..], fours);
     to
 }
@@ -56,17 +43,15 @@ pub fn first_rows(
     fours: &mut [u16],
     sums: &mut [u32],
 ) -> usize
-    requires { Framed frame plane.now × (window.r ≤ 15) × (window.s ≤ 15) × (frame.width + 34 ≤ length row.old) × (frame.width + 33 ≤ length fours.old) × (ring_size frame.width window ≤ length sums.old) }
+    requires { Framed frame plane.now × (frame.width + 34 ≤ length row.old) × (frame.width + 33 ≤ length fours.old) × (ring_size frame.width window ≤ length sums.old) }
     ensures { (result ≡ row_start frame.width window (2 * window.s)) × HeldTable frame window plane.now (2 * window.s) sums.new }
 {
     let w = frame.width;
     let s = window.s;
-    clear(sums, table_sizes::table_width(w, window));
+    sums[..table_sizes::table_width(w, window.r)].fill(0);
     let mut at = 0;
-    let mut k = 0;
-    while k < 2 * s {
+    for k in 0..2 * s {
         at = next_row(frame, window, plane, k, at, row, fours, sums);
-        k += 1;
     }
     at
 }

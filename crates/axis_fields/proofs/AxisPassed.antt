@@ -12,7 +12,7 @@ use borrow.Author.Tests.{leb-true}
 use Rattle.integers.proofs.Parts.{pos_part, neg_part, add_parts}
 use Rattle.integers.proofs.Order.{lt_of_parts}
 use Rattle.refusals.specs.Refusal.{verdict}
-use Rattle.refusals.specs.declared.Verdict.TheVariants.{Passed}
+use Rattle.std.specs.Prelude.{Ok}
 use Rattle.refusals.proofs.Passed.{AllPass, all_pass, between}
 use Rattle.weights.specs.Bits.{accepted}
 use Rattle.recipe_bytes.specs.Bytes.{at, word, signed8, bits, there}
@@ -50,7 +50,7 @@ pub record Sizes (real : Bool) (b : List ℕ) : Type 0 where
   pub enough : sizes_length real ≤ length b
   pub counts-there : 2 ≤ length b
 
-pub sizes_known : (real : Bool) (b : List ℕ) → verdict (size_tests real b) ≡ Passed → Sizes real b
+pub sizes_known : (real : Bool) (b : List ℕ) → verdict (size_tests real b) ≡ Ok tt → Sizes real b
 sizes_known real b h =
     let s = sizes_passed real b (all_pass (size_tests real b) h) in
     record {

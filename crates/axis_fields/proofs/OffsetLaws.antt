@@ -2,7 +2,8 @@
 use Prim.Native.Nat.{ℕ, suc, ◌+◌, ◌-◌, ◌≤◌, ◌<◌}
 use native.Mathlib.Omega.{arith}
 use mathlib.Core.Path.{◌≡◌, refl, ap, ◌∙◌}
-use mathlib.Core.Bool.{Bool, true, false, cond, ◌&&◌, and-false}
+use mathlib.Core.Bool.{true, false, cond, ◌&&◌, and-false}
+use mathlib.Core.Logic.{◌⊎◌, inl, inr}
 use mathlib.Core.List.{List}
 use lib.ListN.{length, get_or, drop, length-drop}
 use lib.Seq.{drop-drop, get_or-drop}
@@ -10,8 +11,9 @@ use lib.IntN.{ℤ, pos, negsuc, ◌+ℤ◌, ◌-ℤ◌}
 use lib.Signed.{le_z}
 use borrow.Author.Tests.{le-leb, lt-leb}
 use Rattle.integers.proofs.Parts.{pos_part, neg_part, parts_ext, add_parts, sub_parts}
-use Rattle.refusals.specs.Refusal.{verdict}
-use Rattle.refusals.specs.declared.Verdict.TheVariants.{Refused, Passed}
+use Rattle.refusals.specs.declared.Refusal.TheVariants as Refusal
+use Rattle.refusals.specs.Refusal.{Test, verdict}
+use Rattle.std.specs.Prelude.{Ok, Err}
 use Rattle.recipe_bytes.specs.Bytes.{signed8, there}
 use Rattle.axis_fields.specs.AxisFields.{offset_tests, axis_tests}
 
@@ -53,19 +55,19 @@ next o = parts_ext _ _ (omega (arith, sub_parts (pos o) (pos 128), sub_parts (po
 
 module _ (least n i : ℕ) (part : List ℕ) where
   -- what is left to test
-  abbrev pub left : List ℕ → ℕ → ℕ → List (Bool × ℕ)
+  abbrev pub left : List ℕ → ℕ → ℕ → List Test
   left p k l = offset_tests (pos l -ℤ pos 128) (n - k) (drop k p)
 
-  pub offset_end : n ≤ i → verdict (left part i least) ≡ Passed
+  pub offset_end : n ≤ i → verdict (left part i least) ≡ Ok tt
   unfolding offset_tests verdict
   offset_end h = let e : n - i ≡ 0 = omega arith in rw e
 
-  pub offset-cut : i < n → length part ≤ i → verdict (left part i least) ≡ Refused 11
+  pub offset-cut : i < n → length part ≤ i → verdict (left part i least) ≡ Err Refusal.Cut
   unfolding offset_tests verdict there
   offset-cut h l = let e : n - i ≡ suc (n - (i + 1)) = omega arith in rw (e, length-drop i part, lt-leb 1 (length part - i) (omega arith))
 
   module _ (o : ℕ) (h : i < n) (l : i < length part) (e : pos o ≡ signed8 (get_or part i 0) +ℤ pos 128) where
-    step : verdict (left part i least) ≡ cond (le_z (lowered least) (lowered o) && le_z (lowered o) (pos 15)) (verdict (left part (i + 1) (o + 1))) (Refused 15)
+    step : verdict (left part i least) ≡ cond (le_z (lowered least) (lowered o) && le_z (lowered o) (pos 15)) (verdict (left part (i + 1) (o + 1))) (Err Refusal.Offset)
     unfolding offset_tests verdict there
     step =
         let d : n - i ≡ suc (n - (i + 1)) = omega arith in
@@ -75,11 +77,9 @@ module _ (least n i : ℕ) (part : List ℕ) where
     pub offset_good : least ≤ o → o ≤ 143 → verdict (left part i least) ≡ verdict (left part (i + 1) (o + 1))
     offset_good a b = step ∙ rw (low_ok least o a, high_ok o b)
 
-    pub offset-low : o < least → verdict (left part i least) ≡ Refused 15
-    offset-low a = step ∙ rw (low_bad least o a)
-
-    pub offset_high : 143 < o → verdict (left part i least) ≡ Refused 15
-    offset_high a = step ∙ rw (high_bad o a, and-false)
+    pub offset_bad : (o < least) ⊎ ((least ≤ o) × (143 < o)) → verdict (left part i least) ≡ Err Refusal.Offset
+    offset_bad (inl a) = step ∙ rw (low_bad least o a)
+    offset_bad (inr a) = step ∙ rw (high_bad o a.1, and-false)
 
 pub axis_start : (n : ℕ) (part : List ℕ) → verdict (axis_tests n part) ≡ verdict (left 113 n 0 part part 0 113)
 unfolding axis_tests

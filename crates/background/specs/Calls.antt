@@ -1,8 +1,7 @@
 -- Additions and removals called one after the other, each on what the one before left and on lent memory of its own length.
-use Rattle.std.specs.Prelude.{ℕ, ◌*◌, ◌≡◌, List, [], ◌∷◌, length, take}
+use Rattle.std.specs.Prelude.{ℕ, ◌*◌, ◌≡◌, List, [], ◌∷◌, length, take, Result, Ok, Err}
+use Rattle.refusals.specs.declared.Refusal.{Refusal}
 use Rattle.answers.specs.declared.Held.{Held}
-use Rattle.answers.specs.declared.Changed.{Changed}
-use Rattle.answers.specs.declared.Changed.TheVariants.{Refused, Holds}
 use Rattle.background.specs.Background.{empty}
 use Rattle.background.specs.Room.{held_of, raster_size}
 use Rattle.background.specs.Change.{Outcome, addition, removal}
@@ -24,9 +23,9 @@ unfoldable pub Begins : List ℕ → List ℕ → Type 0
 Begins memory front = take (length front) memory ≡ take (length memory) front
 
 -- what is kept after a call: after a refusal what was kept before it
-abbrev pub left_by : Changed → List ℕ → List ℕ → Left → Left
-left_by (Refused n) rasters labels l = l
-left_by (Holds h) rasters labels l = record { held = h; rasters = take (h.count * raster_size h) rasters; labels = take (2 * h.count) labels }
+abbrev pub left_by : Result Held Refusal → List ℕ → List ℕ → Left → Left
+left_by (Err r) rasters labels l = l
+left_by (Ok h) rasters labels l = record { held = h; rasters = take (h.count * raster_size h) rasters; labels = take (2 * h.count) labels }
 
 -- how many bytes an operation is lent
 abbrev pub bytes_lent : Operation → ℕ
@@ -44,7 +43,7 @@ pub record Call (l : Left) (o : Operation) (l' : Left) : Type 0 where
   pub rasters' : List ℕ
   pub labels : List ℕ
   pub labels' : List ℕ
-  pub answer : Changed
+  pub answer : Result Held Refusal
   pub bytes-lent : length rasters ≡ bytes_lent o
   pub words-lent : length labels ≡ words_lent o
   pub rasters-begin : Begins rasters l.rasters

@@ -1,5 +1,5 @@
 -- Worked examples of the background. A row names the case, what the definitions give, and what they should give. The theorem at the end goes over all rows.
-use Rattle.std.specs.Prelude.{ℕ, cond, List, [], ◌∷◌, ◌++◌, map, ◌≡◌, refl, replicate}
+use Rattle.std.specs.Prelude.{ℕ, cond, List, [], ◌∷◌, ◌++◌, map, ◌≡◌, refl, replicate, Option, None, Some, Result, Ok, Err}
 use Prim.Native.String.{String}
 use Rattle.integers.specs.Sum.{sum}
 use Rattle.lists.specs.Tabulate.{tabulate}
@@ -9,13 +9,14 @@ use Rattle.header_reader.specs.Header.{field_after, field, header_of, height_fie
 use Rattle.picture_sizes.specs.PictureSize.{is_side}
 use Rattle.still_reader.specs.Head.{channels_of, magic_test, header_tests, announced, head_of}
 use Rattle.still_reader.specs.Read.{still_of}
-use Rattle.answers.specs.declared.Still.TheVariants as Still
+use Rattle.refusals.specs.declared.Refusal.{Refusal}
+use Rattle.refusals.specs.declared.Refusal.TheVariants as Refusal
+use Rattle.refusals.specs.Refusal.{number}
 use Rattle.answers.specs.declared.Held.{Held}
 use Rattle.answers.specs.declared.Mean.{Mean}
-use Rattle.answers.specs.declared.Mean.TheVariants.{Refused, NoStills, Of}
 use Rattle.background.specs.Background.{Member, member, Background, empty, numbers, position, present}
 use Rattle.background.specs.Room.{room_for, small_numbers, held_room}
-use Rattle.background.specs.Change.{Outcome, refused, changed, suits, add_tests, addition_of, addition, remove_tests, without, removal}
+use Rattle.background.specs.Change.{Outcome, suits, add_tests, addition_of, addition, remove_tests, without, removal}
 use Rattle.background.specs.Mean.{mean_of, samples_at, mean_raster, mean_tolerance, mean_tests, mean_answer, mean_output}
 use Rattle.background.specs.Memory.{slot, member_in, background_in}
 use Rattle.background.specs.History.{Addition, Operation, adds, removes, outcome, after_outcome, history, except, survivors}
@@ -31,7 +32,7 @@ row n f e = record { name = n; found = f; expected = e }
 
 -- a grey still of one row added, with so many bytes and labels lent: its number, its T, its width and its samples
 unfoldable pub adding : ℕ → ℕ → ℕ → ℕ → ℕ → List ℕ → Background → Outcome
-adding rasters labels n T W s b = addition_of (Still.Picture W 1 1 0) s n T rasters labels b
+adding rasters labels n T W s b = addition_of (Ok (record { width = W; height = 1; channels = 1; start = 0 })) s n T rasters labels b
 
 -- the same with ample memory, and the background after it
 unfoldable pub add : ℕ → ℕ → ℕ → List ℕ → Background → Background
@@ -40,16 +41,16 @@ add n T W s b = after_outcome (adding 999 999 n T W s b) b
 unfoldable pub remove : ℕ → Background → Background
 remove n b = after_outcome (removal n 999 999 b) b
 
--- a change's refusal, or 0
+-- the number of a change's refusal, or 0
 unfoldable pub refusal : Outcome → ℕ
-refusal (refused n) = n
-refusal (changed b) = 0
+refusal (Err r) = number r
+refusal (Ok b) = 0
 
 -- an answer as numbers: a refusal's, none where no stills are held, or how many stills, T and how many bytes
-unfoldable pub answered : Mean → List ℕ
-answered (Refused n) = n ∷ []
-answered NoStills = []
-answered (Of k T n) = k ∷ T ∷ n ∷ []
+unfoldable pub answered : Result (Option Mean) Refusal → List ℕ
+answered (Err r) = number r ∷ []
+answered (Ok None) = []
+answered (Ok (Some m)) = m.stills ∷ m.tolerance ∷ m.len ∷ []
 
 -- T and the mean still
 unfoldable pub mean : Background → List ℕ
@@ -111,7 +112,7 @@ rows =
     ∷ row "T is cut to 255 levels" (mean (add 5 16678912 1 (4 ∷ []) empty) ++ mean (add 5 16678913 1 (4 ∷ []) empty) ++ mean (add 5 4294967295 1 (4 ∷ []) empty)) (16711680 ∷ 4 ∷ 16711680 ∷ 4 ∷ 16711680 ∷ 4 ∷ [])
     ∷ row "width, height and channels have to be those held" (map (λ h. cond (suits 2 1 1 h) 1 0) (holding 1 2 1 1 ∷ holding 1 3 1 1 ∷ holding 1 2 2 1 ∷ holding 1 2 1 3 ∷ holding 0 3 2 3 ∷ [])) (1 ∷ 0 ∷ 0 ∷ 0 ∷ 1 ∷ [])
     ∷ row "the thousandth still is taken, the next is not: the size comes before that, room behind it" (refusal (adding 2000 2000 5 0 2 (0 ∷ 0 ∷ []) (many 999)) ∷ refusal (adding 2000 2000 5 0 2 (0 ∷ 0 ∷ []) (many 1000)) ∷ refusal (adding 2000 2000 5 0 1 (0 ∷ []) (many 1000)) ∷ []) (0 ∷ 25 ∷ 24 ∷ [])
-    ∷ row "a still that cannot be read is refused before all else" (refusal (addition_of (Still.Refused 5) [] 8 0 0 0 three) ∷ []) (5 ∷ [])
+    ∷ row "a still that cannot be read is refused before all else" (refusal (addition_of (Err Refusal.RasterShort) [] 8 0 0 0 three) ∷ []) (5 ∷ [])
     ∷ row "numbers of more than 16 bits have no room, where there are stills" (map (λ h. cond (held_room h 99999 99999) 1 0) (holding 1 65535 1 1 ∷ holding 1 65536 1 1 ∷ holding 0 65536 1 1 ∷ [])) (1 ∷ 0 ∷ 1 ∷ [])
     ∷ row "none are held, whatever is lent" (answered (mean_answer 0 0 0 empty)) []
     ∷ row "a mean whose output is too short, and one that fits" (answered (mean_answer 999 999 1 two) ++ answered (mean_answer 999 999 2 two)) (20 ∷ 2 ∷ 33068 ∷ 2 ∷ [])

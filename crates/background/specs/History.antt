@@ -1,7 +1,7 @@
 -- A list of additions and removals, one after the other, and what is left of it.
-use Rattle.std.specs.Prelude.{ℕ, Bool, cond, not, List, [], ◌∷◌, ◌++◌, eqb}
+use Rattle.std.specs.Prelude.{ℕ, Bool, cond, not, List, [], ◌∷◌, ◌++◌, eqb, Ok, Err}
 use Rattle.background.specs.Background.{Background, empty}
-use Rattle.background.specs.Change.{Outcome, refused, changed, addition, removal}
+use Rattle.background.specs.Change.{Outcome, addition, removal}
 
 -- an addition: the still's file, its number and its T, and how many bytes and words are lent
 pub record Addition : Type 0 where
@@ -23,8 +23,8 @@ outcome (removes n bytes words) b = removal n bytes words b
 
 -- the background after an outcome: a refusal leaves it as it was
 abbrev pub after_outcome : Outcome → Background → Background
-after_outcome (refused n) b = b
-after_outcome (changed b') b = b'
+after_outcome (Err r) b = b
+after_outcome (Ok b') b = b'
 
 -- the background after a list of operations
 unfoldable pub history : List Operation → Background → Background
@@ -38,9 +38,9 @@ except n (a ∷ xs) = cond (eqb a.number n) (except n xs) (a ∷ except n xs)
 
 -- of the additions before an operation, and that one: those which are there still. A refusal changes nothing
 abbrev pub left_after : Operation → Outcome → List Addition → List Addition
-left_after o (refused r) xs = xs
-left_after (adds a) (changed b) xs = xs ++ (a ∷ [])
-left_after (removes n bytes words) (changed b) xs = except n xs
+left_after o (Err r) xs = xs
+left_after (adds a) (Ok b) xs = xs ++ (a ∷ [])
+left_after (removes n bytes words) (Ok b) xs = except n xs
 
 -- the additions that are left of a list of operations, in the order in which they came: those neither refused nor removed later
 unfoldable pub survivors : List Operation → Background → List Addition → List Addition

@@ -1,13 +1,12 @@
 -- Which background lent memory holds, and what a call leaves in it.
-use Rattle.std.specs.Prelude.{ℕ, ◌+◌, ◌*◌, ◌≡◌, List, length, get_or, take, drop}
+use Rattle.std.specs.Prelude.{ℕ, ◌+◌, ◌*◌, ◌≡◌, List, length, get_or, take, drop, Option, Result, Ok, Err}
 use Rattle.lists.specs.Tabulate.{tabulate}
+use Rattle.refusals.specs.declared.Refusal.{Refusal}
 use Rattle.answers.specs.declared.Held.{Held}
-use Rattle.answers.specs.declared.Changed.{Changed}
-use Rattle.answers.specs.declared.Changed.TheVariants.{Refused, Holds}
 use Rattle.answers.specs.declared.Mean.{Mean}
 use Rattle.background.specs.Background.{Member, member, Background, stills, samples}
 use Rattle.background.specs.Room.{held_of, raster_size}
-use Rattle.background.specs.Change.{Outcome, refused, changed}
+use Rattle.background.specs.Change.{Outcome}
 use Rattle.background.specs.Mean.{mean_answer, mean_output}
 
 -- slot i of rasters of `size` bytes, which lie one behind the other
@@ -37,20 +36,20 @@ pub record Lies (b : Background) (rasters rasters' labels labels' : List ℕ) : 
 
 -- memory after any outcome: a refusal leaves all as it was
 abbrev pub Leaves : Outcome → List ℕ → List ℕ → List ℕ → List ℕ → Type 0
-Leaves (refused n) rasters rasters' labels labels' = (rasters' ≡ rasters) × (labels' ≡ labels)
-Leaves (changed b) rasters rasters' labels labels' = Lies b rasters rasters' labels labels'
+Leaves (Err r) rasters rasters' labels labels' = (rasters' ≡ rasters) × (labels' ≡ labels)
+Leaves (Ok b) rasters rasters' labels labels' = Lies b rasters rasters' labels labels'
 
--- an outcome as an answer: the refusal's number, or what is held now
-abbrev pub answer_of : Outcome → Changed
-answer_of (refused n) = Refused n
-answer_of (changed b) = Holds (held_of b)
+-- an outcome as an answer: the refusal, or what is held now
+abbrev pub answer_of : Outcome → Result Held Refusal
+answer_of (Err r) = Err r
+answer_of (Ok b) = Ok (held_of b)
 
 -- what `add_still` and `remove_still` ensure, for the outcome that the definitions give on what memory holds
-pub record Changes (o : Outcome) (rasters rasters' labels labels' : List ℕ) (answer : Changed) : Type 0 where
+pub record Changes (o : Outcome) (rasters rasters' labels labels' : List ℕ) (answer : Result Held Refusal) : Type 0 where
   pub answered : answer ≡ answer_of o
   pub left : Leaves o rasters rasters' labels labels'
 
 -- what `mean_still` ensures
-pub record Means (b : Background) (rasters labels out out' : List ℕ) (answer : Mean) : Type 0 where
+pub record Means (b : Background) (rasters labels out out' : List ℕ) (answer : Result (Option Mean) Refusal) : Type 0 where
   pub answered : answer ≡ mean_answer (length rasters) (length labels) (length out) b
   pub output : out' ≡ mean_output answer b out

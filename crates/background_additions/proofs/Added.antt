@@ -7,16 +7,15 @@ use mathlib.Core.List.{List, [], ◌∷◌, ◌++◌}
 use lib.ListN.{length, length-append}
 use lib.Dec.{eqb}
 use borrow.Author.Tests.{ne_eqb, eqb-true, ltb-true}
+use Rattle.std.specs.Prelude.{Ok, Err}
 use Rattle.lists.specs.Tabulate.{tabulate}
 use Rattle.lists.proofs.Tabulate.{tabulate_ext, tabulate_last}
 use Rattle.refusals.specs.Refusal.{tested, verdict}
-use Rattle.refusals.specs.declared.Verdict.TheVariants.{Passed}
 use Rattle.refusals.proofs.Passed.{all_pass}
 use Rattle.answers.specs.declared.Held.{Held}
-use Rattle.answers.specs.declared.Changed.TheVariants.{Holds}
 use Rattle.background.specs.Background.{Member, member, Background, stills}
 use Rattle.background.specs.Room.{held_of}
-use Rattle.background.specs.Change.{refused, changed, suits, add_tests, joined}
+use Rattle.background.specs.Change.{suits, add_tests, joined}
 use Rattle.background.specs.Memory.{member_in, background_in, Lies, Changes}
 use Rattle.background_slots.specs.Slot.{with_raster, with_labels}
 use Rattle.background_slots.proofs.Holding.{stills_in}
@@ -84,7 +83,7 @@ pub record Accepted (W H c : ℕ) (h : Held) (rasters labels : ℕ) : Type 0 whe
   pub room : h.count * (W * H * c) + W * H * c ≤ rasters
   pub space : 2 * h.count + 2 ≤ labels
 
-pub accepted : (n W H c bytes words : ℕ) (h : Held) (rasters labels : List ℕ) → verdict (add_tests n W H c bytes words (background_in h rasters labels)) ≡ Passed → Accepted W H c h bytes words
+pub accepted : (n W H c bytes words : ℕ) (h : Held) (rasters labels : List ℕ) → verdict (add_tests n W H c bytes words (background_in h rasters labels)) ≡ Ok tt → Accepted W H c h bytes words
 accepted n W H c bytes words h rasters labels e =
     let p = all_pass _ (rw (add_tests_in n bytes words h rasters labels W H c) at e) in
     let i = inside (h.count + 1) (W * H * c) bytes words p.1.1.1.1.0 in
@@ -92,10 +91,10 @@ accepted n W H c bytes words h rasters labels e =
 
 -- the answer and memory behind it
 pub added : (n T W H c : ℕ) (h : Held) (raster rasters labels : List ℕ) {rasters' labels' : List ℕ} → length raster ≡ W * H * c
-    → verdict (add_tests n W H c (length rasters) (length labels) (background_in h rasters labels)) ≡ Passed
+    → verdict (add_tests n W H c (length rasters) (length labels) (background_in h rasters labels)) ≡ Ok tt
     → rasters' ≡ with_raster (length raster) h.count raster rasters → labels' ≡ with_labels h.count n T labels
-    → Changes (tested refused (add_tests n W H c (length rasters) (length labels) (background_in h rasters labels)) (changed (joined W H c (member n T raster) (background_in h rasters labels))))
-    rasters rasters' labels labels' (Holds (record { count = h.count + 1; width = W; height = H; channels = c }))
+    → Changes (tested Err (add_tests n W H c (length rasters) (length labels) (background_in h rasters labels)) (Ok (joined W H c (member n T raster) (background_in h rasters labels))))
+    rasters rasters' labels labels' (Ok (record { count = h.count + 1; width = W; height = H; channels = c }))
 added n T W H c h raster rasters labels long e er el =
     let a = accepted n W H c (length rasters) (length labels) h rasters labels e in
     let lies = added_lies W H c n T h raster rasters labels a.fits long a.room a.space in

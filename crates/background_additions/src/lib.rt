@@ -4,67 +4,55 @@
 ghost use Rattle.std.specs.Prelude.{◌≡◌, ◌+◌, ◌*◌, ◌≤◌, length};
 ghost use Rattle.refusals.specs.Refusal.{tested, verdict};
 ghost use Rattle.background.specs.Background.{member};
-ghost use Rattle.background.specs.Change.{refused, changed, suits, add_tests, joined, addition};
+ghost use Rattle.background.specs.Change.{suits, add_tests, joined, addition};
 ghost use Rattle.background.specs.Memory.{background_in, Changes};
 ghost use Rattle.background_slots.specs.Slot.{with_raster, with_labels};
 
-use answers::{Changed, Held, Still};
-use refusals::Verdict;
+use answers::{Held, Picture};
+use refusals::Refusal;
 
-// The size of a still to be added.
-#[derive(Clone, Copy)]
-struct Size {
-    width: usize,
-    height: usize,
-    channels: usize,
-}
+// So many stills are held at most.
+const FULL: usize = 1000;
 
 // Whether a still of this size can stand beside those held.
-fn suits_held(held: Held, size: Size) -> bool
-    ensures { result ≡ suits size.width size.height size.channels held }
+#[tactic(auto, unfolding(background::specs::Change::suits))]
+fn suits_held(held: Held, picture: Picture) -> bool
+    ensures { result ≡ suits picture.width picture.height picture.channels held }
 {
-    let count = held.count;
-    let width = held.width;
-    let height = held.height;
-    let channels = held.channels;
-    let w = size.width;
-    let h = size.height;
-    let c = size.channels;
-    if count == 0 {
-        return true;
-    }
-    if width != w {
-        return false;
-    }
-    if height != h {
-        return false;
-    }
-    channels == c
+    held.count == 0
+        || held.width == picture.width
+            && held.height == picture.height
+            && held.channels == picture.channels
 }
 
 // The tests of an addition behind the still's own.
-fn add_tests(held: Held, size: Size, number: u32, rasters: &[u8], labels: &[u32]) -> Verdict
-    requires { (size.width * size.height ≤ 67108864) × (size.width * size.height * size.channels ≤ 201326592) }
-    ensures { result ≡ verdict (add_tests number size.width size.height size.channels (length rasters.now) (length labels.now) (background_in held rasters.now labels.now)) }
+fn add_tests(
+    held: Held,
+    picture: Picture,
+    number: u32,
+    rasters: &[u8],
+    labels: &[u32],
+) -> Result<(), Refusal>
+    requires { (picture.width * picture.height ≤ 67108864) × (picture.width * picture.height * picture.channels ≤ 201326592) }
+    ensures { result ≡ verdict (add_tests number picture.width picture.height picture.channels (length rasters.now) (length labels.now) (background_in held rasters.now labels.now)) }
 {
-    let count = held.count;
-    let samples = size.width * size.height * size.channels;
+    let size = picture.width * picture.height * picture.channels;
     if !background_slots::held_room(held, rasters.len(), labels.len()) {
-        return Verdict::Refused(refusals::ROOM);
+        return Err(Refusal::Room);
     }
-    if background_slots::find(labels, count, number) < count {
-        return Verdict::Refused(refusals::STILL_NUMBER);
+    if background_slots::find(labels, held.count, number).is_some() {
+        return Err(Refusal::StillNumber);
     }
-    if !suits_held(held, size) {
-        return Verdict::Refused(refusals::STILL_SIZE);
+    if !suits_held(held, picture) {
+        return Err(Refusal::StillSize);
     }
-    if 1000 <= count {
-        return Verdict::Refused(refusals::BACKGROUND_FULL);
+    if held.count >= FULL {
+        return Err(Refusal::BackgroundFull);
     }
-    if !background_slots::room_for(count + 1, samples, rasters.len(), labels.len()) {
-        return Verdict::Refused(refusals::ROOM);
+    if !background_slots::room_for(held.count + 1, size, rasters.len(), labels.len()) {
+        return Err(Refusal::Room);
     }
-    Verdict::Passed
+    Ok(())
 }
 
 // A still into a slot.
@@ -86,32 +74,24 @@ fn put_still(
 // A picture added behind those held: what is held afterwards, or refusal 20, 23, 24 or 25.
 fn add_picture(
     held: Held,
-    size: Size,
+    picture: Picture,
     raster: &[u8],
     number: u32,
     tolerance: u32,
     rasters: &mut [u8],
     labels: &mut [u32],
-) -> Changed
-    requires { (size.width * size.height ≤ 67108864) × (size.width * size.height * size.channels ≤ 201326592) × (length raster.now ≡ size.width * size.height * size.channels) }
-    ensures { Changes (tested refused (add_tests number size.width size.height size.channels (length rasters.old) (length labels.old) (background_in held rasters.old labels.old)) (changed (joined size.width size.height size.channels (member number tolerance raster.now) (background_in held rasters.old labels.old)))) rasters.old rasters.new labels.old labels.new result }
+) -> Result<Held, Refusal>
+    requires { (picture.width * picture.height ≤ 67108864) × (picture.width * picture.height * picture.channels ≤ 201326592) × (length raster.now ≡ picture.width * picture.height * picture.channels) }
+    ensures { Changes (tested Err (add_tests number picture.width picture.height picture.channels (length rasters.old) (length labels.old) (background_in held rasters.old labels.old)) (Ok (joined picture.width picture.height picture.channels (member number tolerance raster.now) (background_in held rasters.old labels.old)))) rasters.old rasters.new labels.old labels.new result }
 {
-    let count = held.count;
-    let width = size.width;
-    let height = size.height;
-    let channels = size.channels;
-    match add_tests(held, size, number, rasters, labels) {
-        Verdict::Refused(n) => Changed::Refused(n),
-        Verdict::Passed => {
-            put_still(count, raster, number, tolerance, rasters, labels);
-            Changed::Holds(Held {
-                count: count + 1,
-                width,
-                height,
-                channels,
-            })
-        }
-    }
+    add_tests(held, picture, number, rasters, labels)?;
+    put_still(held.count, raster, number, tolerance, rasters, labels);
+    Ok(Held {
+        count: held.count + 1,
+        width: picture.width,
+        height: picture.height,
+        channels: picture.channels,
+    })
 }
 
 // Add a still with its number and its T: what is held afterwards, or the still's refusal, 20, 23, 24 or 25.
@@ -122,28 +102,10 @@ pub fn add_still(
     tolerance: u32,
     rasters: &mut [u8],
     labels: &mut [u32],
-) -> Changed
+) -> Result<Held, Refusal>
     ensures { Changes (addition still.now number tolerance (length rasters.old) (length labels.old) (background_in held rasters.old labels.old)) rasters.old rasters.new labels.old labels.new result }
 {
-    match still_reader::read_still(still) {
-        Still::Refused(n) => Changed::Refused(n),
-        Still::Picture {
-            width,
-            height,
-            channels,
-            start,
-        } => add_picture(
-            held,
-            Size {
-                width,
-                height,
-                channels,
-            },
-            &still[start..],
-            number,
-            tolerance,
-            rasters,
-            labels,
-        ),
-    }
+    let picture = still_reader::read_still(still)?;
+    let raster = &still[picture.start..];
+    add_picture(held, picture, raster, number, tolerance, rasters, labels)
 }

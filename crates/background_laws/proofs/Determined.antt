@@ -7,10 +7,12 @@ use mathlib.Core.Logic.{⊎_elim}
 use mathlib.Core.List.{List, []}
 use lib.ListN.{length, get_or, take, drop, take-append-drop, length-take}
 use lib.Seq.{get_or-take, take-add, ext_get_or}
+use Rattle.std.specs.Prelude.{Result, Ok, Err}
 use Rattle.lists.proofs.Tabulate.{get_d_tabulate}
-use Rattle.answers.specs.declared.Changed.{Changed}
+use Rattle.refusals.specs.declared.Refusal.{Refusal}
+use Rattle.answers.specs.declared.Held.{Held}
 use Rattle.background.specs.Background.{Member, member, Background, stills, samples}
-use Rattle.background.specs.Change.{Outcome, refused, changed}
+use Rattle.background.specs.Change.{Outcome}
 use Rattle.background.specs.Memory.{slot, member_in, background_in, Lies, Changes}
 
 -- ---- lists that are equal part by part
@@ -44,7 +46,7 @@ module _ (k : ℕ) (xs ys : List ℕ) (even : (i : ℕ) → i < k → get_or xs 
 -- ---- two memories behind one call
 
 -- the same bytes, the same labels and the same answer
-pub record Agree (rasters₁ rasters₂ labels₁ labels₂ : List ℕ) (answer₁ answer₂ : Changed) : Type 0 where
+pub record Agree (rasters₁ rasters₂ labels₁ labels₂ : List ℕ) (answer₁ answer₂ : Result Held Refusal) : Type 0 where
   pub rasters : rasters₁ ≡ rasters₂
   pub labels : labels₁ ≡ labels₂
   pub answer : answer₁ ≡ answer₂
@@ -73,15 +75,15 @@ module _ {b : Background} {rasters rasters₁ rasters₂ labels labels₁ labels
       (y₁.labels_behind ∙ sym y₂.labels_behind)
 
 -- THE CONTRACT LEAVES NO CHOICE, for any outcome and however long the memory is
-pub determined : (o : Outcome) {rasters rasters₁ rasters₂ labels labels₁ labels₂ : List ℕ} {answer₁ answer₂ : Changed}
+pub determined : (o : Outcome) {rasters rasters₁ rasters₂ labels labels₁ labels₂ : List ℕ} {answer₁ answer₂ : Result Held Refusal}
     → Changes o rasters rasters₁ labels labels₁ answer₁ → Changes o rasters rasters₂ labels labels₂ answer₂
     → Agree rasters₁ rasters₂ labels₁ labels₂ answer₁ answer₂
-determined (refused n) c d = record {
+determined (Err r) c d = record {
   rasters = c.left.0 ∙ sym d.left.0;
   labels = c.left.1 ∙ sym d.left.1;
   answer = c.answered ∙ sym d.answered;
 }
-determined (changed b) c d = record {
+determined (Ok b) c d = record {
   rasters = same_rasters c.left d.left;
   labels = same_labels c.left d.left;
   answer = c.answered ∙ sym d.answered;

@@ -7,16 +7,18 @@ use mathlib.Core.List.{List, [], ◌∷◌}
 use lib.ListN.{drop, length-append}
 use lib.Dec.{eqb}
 use borrow.Author.Tests.{le-leb, ltb-true, eqb-true}
+use Rattle.std.specs.Prelude.{Result, Ok, Err}
 use Rattle.lists.proofs.Tabulate.{length-tabulate}
+use Rattle.refusals.specs.declared.Refusal.{Refusal}
 use Rattle.refusals.proofs.Passed.{AllPass, passed}
 use Rattle.answers.specs.declared.Held.{Held}
-use Rattle.answers.specs.declared.Still.{Still}
+use Rattle.answers.specs.declared.Picture.{Picture}
 use Rattle.picture_sizes.proofs.PictureSizeLaws.{side-le, channels_few}
 use Rattle.still_reader.specs.Read.{still_of}
 use Rattle.round_trip.proofs.RoundTrip.{picture_valid}
 use Rattle.background.specs.Background.{member, Background, empty, stills, samples, numbers, position}
 use Rattle.background.specs.Room.{room_for, held_of, small_numbers, held_room}
-use Rattle.background.specs.Change.{Outcome, refused, changed, add_tests, joined, addition_of, addition, remove_tests, without, removal}
+use Rattle.background.specs.Change.{Outcome, add_tests, joined, addition_of, addition, remove_tests, without, removal}
 use Rattle.background.specs.History.{Addition, Operation, adds, removes, outcome, after_outcome, history}
 use Rattle.background.specs.Calls.{Left, nothing, Calls}
 use Rattle.background_laws.proofs.Survivors.{never}
@@ -35,34 +37,35 @@ limited_none : Limited (held_of empty)
 limited_none = record { few = omega arith; width = omega arith; height = omega arith; channels = omega arith }
 
 -- an addition: there were fewer than 1,000, and the size is that of a still that was read
-limited_joined : (a : Addition) (b : Background) (W H c start : ℕ) → still_of a.file ≡ Still.Picture W H c start
-    → AllPass (add_tests a.number W H c a.bytes a.words b) → Limited (held_of (joined W H c (member a.number a.tolerance (drop start a.file)) b))
+limited_joined : (a : Addition) (b : Background) (s : Picture) → still_of a.file ≡ Ok s
+    → AllPass (add_tests a.number s.width s.height s.channels a.bytes a.words b)
+    → Limited (held_of (joined s.width s.height s.channels (member a.number a.tolerance (drop s.start a.file)) b))
 unfolding add_tests
-limited_joined a b W H c start e p =
+limited_joined a b s e p =
     let v = picture_valid a.file e in
     record {
-      few = rw (length-append b.members (member a.number a.tolerance (drop start a.file) ∷ [])) (omega (arith, ltb-true (stills b) 1000 p.1.1.1.0));
-      width = (side-le W v.width).1;
-      height = (side-le H v.height).1;
-      channels = channels_few c v.channels;
+      few = rw (length-append b.members (member a.number a.tolerance (drop s.start a.file) ∷ [])) (omega (arith, ltb-true (stills b) 1000 p.1.1.1.0));
+      width = (side-le s.width v.width).1;
+      height = (side-le s.height v.height).1;
+      channels = channels_few s.channels v.channels;
     }
 
-limited_added : (a : Addition) (b b' : Background) → outcome (adds a) b ≡ changed b' → Limited (held_of b')
+limited_added : (a : Addition) (b b' : Background) → outcome (adds a) b ≡ Ok b' → Limited (held_of b')
 unfolding outcome addition
 limited_added a b b' e = go (still_of a.file) refl e
   where
-    go : (s : Still) → still_of a.file ≡ s → addition_of s a.file a.number a.tolerance a.bytes a.words b ≡ changed b' → Limited (held_of b')
-    go (Still.Refused r) d f = absurd (never r f)
-    go (Still.Picture W H c start) d f =
-        let p = passed refused (add_tests a.number W H c a.bytes a.words b) _ (changed b') never f in
-        let is : joined W H c (member a.number a.tolerance (drop start a.file)) b ≡ b' = cc in
-        subst (λ (z : Background). Limited (held_of z)) is (limited_joined a b W H c start d p.0)
+    go : (s : Result Picture Refusal) → still_of a.file ≡ s → addition_of s a.file a.number a.tolerance a.bytes a.words b ≡ Ok b' → Limited (held_of b')
+    go (Err r) d f = absurd (never r f)
+    go (Ok s) d f =
+        let p = passed {A = Outcome} Err (add_tests a.number s.width s.height s.channels a.bytes a.words b) _ (Ok b') never f in
+        let is : joined s.width s.height s.channels (member a.number a.tolerance (drop s.start a.file)) b ≡ b' = cc in
+        subst (λ (z : Background). Limited (held_of z)) is (limited_joined a b s d p.0)
 
 -- a removal: one still fewer, and the size stays
-limited_removed : (n rasters labels : ℕ) (b b' : Background) → Limited (held_of b) → outcome (removes n rasters labels) b ≡ changed b' → Limited (held_of b')
+limited_removed : (n rasters labels : ℕ) (b b' : Background) → Limited (held_of b) → outcome (removes n rasters labels) b ≡ Ok b' → Limited (held_of b')
 unfolding outcome removal without
 limited_removed n rasters labels b b' l e =
-    let p = passed refused (remove_tests n rasters labels b) _ (changed b') never e in
+    let p = passed {A = Outcome} Err (remove_tests n rasters labels b) _ (Ok b') never e in
     let is : record { width = b.width; height = b.height; channels = b.channels; members = without (position n (numbers b)) b.members } ≡ b' = cc in
     subst (λ (z : Background). Limited (held_of z)) is
     (record { few = rw (length-tabulate _ (stills b - 1)) (omega (arith, l.few)); width = l.width; height = l.height; channels = l.channels })
@@ -71,9 +74,9 @@ limited_after : (o : Operation) (b : Background) → Limited (held_of b) → Lim
 limited_after o b l = go o (outcome o b) refl
   where
     go : (o : Operation) (r : Outcome) → outcome o b ≡ r → Limited (held_of (after_outcome r b))
-    go o (refused n) e = l
-    go (adds a) (changed b') e = limited_added a b b' e
-    go (removes n rasters labels) (changed b') e = limited_removed n rasters labels b b' l e
+    go o (Err r) e = l
+    go (adds a) (Ok b') e = limited_added a b b' e
+    go (removes n rasters labels) (Ok b') e = limited_removed n rasters labels b b' l e
 
 limited_history : (os : List Operation) (b : Background) → Limited (held_of b) → Limited (held_of (history os b))
 unfolding history

@@ -9,20 +9,19 @@ use lib.ListN.{length, take, drop, length-append}
 use lib.Seq.{length-take-le, take_all, take-take, get_or-take}
 use lib.Dec.{leb, eqb}
 use borrow.Author.Tests.{leb-true, eqb-true}
+use Rattle.std.specs.Prelude.{Option, Result, Ok, Err}
 use Rattle.lists.specs.Tabulate.{tabulate}
 use Rattle.lists.proofs.Raster.{row_fits}
 use Rattle.lists.proofs.Tabulate.{length-tabulate, tabulate_ext}
-use Rattle.refusals.specs.Refusal as Refusal
+use Rattle.refusals.specs.declared.Refusal.{Refusal}
 use Rattle.refusals.proofs.Passed.{passed}
 use Rattle.answers.specs.declared.Held.{Held}
-use Rattle.answers.specs.declared.Changed.{Changed}
-use Rattle.answers.specs.declared.Still.{Still}
+use Rattle.answers.specs.declared.Picture.{Picture}
 use Rattle.answers.specs.declared.Mean.{Mean}
-use Rattle.answers.specs.declared.Mean.TheVariants.{Refused}
 use Rattle.still_reader.specs.Read.{still_of}
 use Rattle.background.specs.Background.{member, Background, empty, stills, samples, numbers, position}
 use Rattle.background.specs.Room.{room_for, held_of, small_numbers, held_room}
-use Rattle.background.specs.Change.{Outcome, refused, changed, add_tests, joined, addition_of, addition, remove_tests, without, removal}
+use Rattle.background.specs.Change.{Outcome, add_tests, joined, addition_of, addition, remove_tests, without, removal}
 use Rattle.background.specs.Mean.{mean_tests, mean_answer, mean_output}
 use Rattle.background.specs.Memory.{slot, member_in, background_in, Lies, answer_of, Changes, Means}
 use Rattle.background.specs.History.{Operation, adds, removes, outcome, after_outcome, history, survivors}
@@ -108,22 +107,22 @@ module _ (h : Held) (rasters labels : ℕ) where
       go false e = refl
 
 -- a change leaves no more stills than were tested for: an addition is tested for just as many, a removal for one more
-changed-fits : (o : Operation) (b b' : Background) → outcome o b ≡ changed b' → Fits (stills b') (samples b') (bytes_lent o) (words_lent o)
+changed-fits : (o : Operation) (b b' : Background) → outcome o b ≡ Ok b' → Fits (stills b') (samples b') (bytes_lent o) (words_lent o)
 unfolding outcome addition add_tests removal remove_tests without
 changed-fits (adds a) b b' e = go (still_of a.file) e
   where
-    go : (s : Still) → addition_of s a.file a.number a.tolerance a.bytes a.words b ≡ changed b'
+    go : (s : Result Picture Refusal) → addition_of s a.file a.number a.tolerance a.bytes a.words b ≡ Ok b'
         → Fits (stills b') (samples b') a.bytes a.words
-    go (Still.Refused r) f = absurd (never r f)
-    go (Still.Picture W H c start) f =
-        let m = member a.number a.tolerance (drop start a.file) in
-        let p = passed refused (add_tests a.number W H c a.bytes a.words b) _ (changed b') never f in
-        let is : joined W H c m b ≡ b' = cc in
+    go (Err r) f = absurd (never r f)
+    go (Ok s) f =
+        let m = member a.number a.tolerance (drop s.start a.file) in
+        let p = passed {A = Outcome} Err (add_tests a.number s.width s.height s.channels a.bytes a.words b) _ (Ok b') never f in
+        let is : joined s.width s.height s.channels m b ≡ b' = cc in
         let count : length (b.members ++ (m ∷ [])) ≡ suc (stills b) = rw (length-append b.members (m ∷ [])) (omega arith) in
-        let fits = room_fits (suc (stills b)) (W * H * c) a.bytes a.words p.0.1.1.1.1.0 in
+        let fits = room_fits (suc (stills b)) (s.width * s.height * s.channels) a.bytes a.words p.0.1.1.1.1.0 in
         subst (λ (z : Background). Fits (stills z) (samples z) a.bytes a.words) is (rw count fits)
 changed-fits (removes n rasters labels) b b' e =
-    let p = passed refused (remove_tests n rasters labels b) _ (changed b') never e in
+    let p = passed {A = Outcome} Err (remove_tests n rasters labels b) _ (Ok b') never e in
     let is : record { width = b.width; height = b.height; channels = b.channels; members = without (position n (numbers b)) b.members } ≡ b' = cc in
     let fits = fits_fewer (stills b - 1) (stills b) (samples b) rasters labels (omega arith) (held_fits (held_of b) rasters labels p.0.0) in
     subst (λ (z : Background). Fits (stills z) (samples z) rasters labels) is (rw (length-tabulate _ (stills b - 1)) fits)
@@ -168,9 +167,9 @@ short_outcome : (o : Operation) (b found : Background) → held_of found ≡ hel
 unfolding outcome addition add_tests removal remove_tests
 short_outcome (adds a) b found e f = go (still_of a.file)
   where
-    go : (s : Still) → let on = addition_of s a.file a.number a.tolerance a.bytes a.words in on found ≡ on b
-    go (Still.Refused r) = refl
-    go (Still.Picture W H c start) = rw (e, f)
+    go : (s : Result Picture Refusal) → let on = addition_of s a.file a.number a.tolerance a.bytes a.words in on found ≡ on b
+    go (Err r) = refl
+    go (Ok s) = rw (e, f)
 short_outcome (removes n rasters labels) b found e f = rw (e, f)
 
 found-outcome : (o : Operation) (b found : Background) → Found b found (bytes_lent o) (words_lent o) → outcome o found ≡ outcome o b
@@ -187,7 +186,7 @@ call_ensures {l} {l'} {o} {b} k c =
 -- the front of memory keeps the background that was changed to
 module _ {rasters rasters' labels labels' : List ℕ} (l : Left) where
   keeps_changed : {b : Background} → Lies b rasters rasters' labels labels' → Fits (stills b) (samples b) (length rasters) (length labels)
-      → Keeps (left_by (answer_of (changed b)) rasters' labels' l) b
+      → Keeps (left_by (answer_of (Ok b)) rasters' labels' l) b
   keeps_changed {b} y f = record {
     kept = background_front (held_of b) rasters' labels' ∙ y.held;
     held = refl;
@@ -195,10 +194,10 @@ module _ {rasters rasters' labels labels' : List ℕ} (l : Left) where
     two-each = length-take-le (2 * stills b) labels' (omega (arith, f.two-each, y.labels_length));
   }
 
-  keeps_after : {b : Background} {answer : Changed} → Keeps l b → (r : Outcome) → Changes r rasters rasters' labels labels' answer
-      → ((b' : Background) → r ≡ changed b' → Fits (stills b') (samples b') (length rasters) (length labels)) → Keeps (left_by answer rasters' labels' l) (after_outcome r b)
-  keeps_after k (refused n) y f = rw y.answered k
-  keeps_after k (changed b') y f = rw y.answered (keeps_changed y.left (f b' refl))
+  keeps_after : {b : Background} {answer : Result Held Refusal} → Keeps l b → (r : Outcome) → Changes r rasters rasters' labels labels' answer
+      → ((b' : Background) → r ≡ Ok b' → Fits (stills b') (samples b') (length rasters) (length labels)) → Keeps (left_by answer rasters' labels' l) (after_outcome r b)
+  keeps_after k (Err r) y f = rw y.answered k
+  keeps_after k (Ok b') y f = rw y.answered (keeps_changed y.left (f b' refl))
 
 call_keeps : {l l' : Left} {o : Operation} {b : Background} → Keeps l b → Call l o l' → Keeps l' (after_outcome (outcome o b) b)
 call_keeps {l} {l'} {o} {b} k c =
@@ -221,38 +220,38 @@ calls_are_history os l cs = calls_keep keeps_nothing cs
 
 -- ---- a mean after them
 
-short_answer : (b : Background) (rasters labels out : ℕ) → held_room (held_of b) rasters labels ≡ false → mean_answer rasters labels out b ≡ Refused Refusal.room
+short_answer : (b : Background) (rasters labels out : ℕ) → held_room (held_of b) rasters labels ≡ false → mean_answer rasters labels out b ≡ Err Refusal.Room
 unfolding mean_answer mean_tests
 short_answer b rasters labels out f = rw (some_held (held_of b) rasters labels f, f)
 
-module _ {rasters labels out out' : List ℕ} {answer : Mean} (b found : Background) where
+module _ {rasters labels out out' : List ℕ} {answer : Result (Option Mean) Refusal} (b found : Background) where
   -- without room for the stills held, both are refused, and the output stays as it was
   short_mean : held_of found ≡ held_of b → held_room (held_of b) (length rasters) (length labels) ≡ false → Means found rasters labels out out' answer
       → Means b rasters labels out out' answer
   short_mean e f m =
-      let is : answer ≡ Refused Refusal.room = m.answered ∙ short_answer found (length rasters) (length labels) (length out) (rw e f) in
+      let is : answer ≡ Err Refusal.Room = m.answered ∙ short_answer found (length rasters) (length labels) (length out) (rw e f) in
       record { answered = is ∙ sym (short_answer b (length rasters) (length labels) (length out) f); output = rw is (rw is at m.output) }
 
   found-mean : Found b found (length rasters) (length labels) → Means found rasters labels out out' answer → Means b rasters labels out out' answer
   found-mean (whole e) m = rw e at m
   found-mean (short e f) m = short_mean e f m
 
-as_if_mean : {rasters labels out out' : List ℕ} {answer : Mean} (b b' : Background) → AsIf b b' → Means b rasters labels out out' answer
+as_if_mean : {rasters labels out out' : List ℕ} {answer : Result (Option Mean) Refusal} (b b' : Background) → AsIf b b' → Means b rasters labels out out' answer
     → Means b' rasters labels out out' answer
 as_if_mean {rasters} {labels} {out} {out'} {answer} b b' s m =
     let is : answer ≡ mean_answer (length rasters) (length labels) (length out) b' = m.answered ∙ s.answer (length rasters) (length labels) (length out) in
     record {
       answered = is;
-      output = m.output ∙ ap (λ (a : Mean). mean_output a b out) m.answered ∙ s.output (length rasters) (length labels) out ∙ ap (λ (a : Mean). mean_output a b' out) (sym is);
+      output = m.output ∙ ap (λ (a : Result (Option Mean) Refusal). mean_output a b out) m.answered ∙ s.output (length rasters) (length labels) out ∙ ap (λ (a : Result (Option Mean) Refusal). mean_output a b' out) (sym is);
     }
 
 -- a mean's answer and output are those of the history, and those of the survivors by themselves: nothing refused or removed has a part in them
-pub record KeptMean (os : List Operation) (rasters labels out out' : List ℕ) (answer : Mean) : Type 0 where
+pub record KeptMean (os : List Operation) (rasters labels out out' : List ℕ) (answer : Result (Option Mean) Refusal) : Type 0 where
   pub as-defined : Means (history os empty) rasters labels out out' answer
   pub as-if : Means (history (map adds (survivors os empty [])) empty) rasters labels out out' answer
 
 -- A MEAN BEHIND ANY LIST OF CALLS is that of the stills left
-pub kept-mean : (os : List Operation) (l : Left) → Calls nothing os l → (rasters labels out out' : List ℕ) (answer : Mean)
+pub kept-mean : (os : List Operation) (l : Left) → Calls nothing os l → (rasters labels out out' : List ℕ) (answer : Result (Option Mean) Refusal)
     → Begins rasters l.rasters → Begins labels l.labels → Means (background_in l.held rasters labels) rasters labels out out' answer
     → KeptMean os rasters labels out out' answer
 kept-mean os l cs rasters labels out out' answer begins begins-too m =

@@ -8,17 +8,18 @@ use mathlib.Core.List.{List, [], ◌∷◌, ◌++◌, map, map-append, append-ni
 use lib.ListN.{length, get_or, drop, length-map, length-append}
 use lib.Dec.{leb, eqb}
 use borrow.Author.Tests.{le-leb, leb-true, lt-ltb, ltb-true, le-ltb, ltb-false, eq-eqb, eqb-true, not-true}
+use Rattle.std.specs.Prelude.{Option, None, Some, Result, Ok, Err}
 use Rattle.integers.specs.Sum.{sum}
+use Rattle.refusals.specs.declared.Refusal.{Refusal}
 use Rattle.refusals.proofs.Passed.{AllPass, passed}
-use Rattle.answers.specs.declared.Still.{Still}
+use Rattle.answers.specs.declared.Picture.{Picture}
 use Rattle.answers.specs.declared.Mean.{Mean}
-use Rattle.answers.specs.declared.Mean.TheVariants.{Refused, NoStills, Of}
 use Rattle.picture_sizes.proofs.PictureSizeLaws.{side-le, channels_few}
 use Rattle.still_reader.specs.Read.{still_of}
 use Rattle.round_trip.proofs.RoundTrip.{picture_valid}
 use Rattle.background.specs.Background.{Member, member, Background, empty, stills, numbers, position, present}
 use Rattle.background.specs.Room.{room_for, held_of, small_numbers, held_room}
-use Rattle.background.specs.Change.{Outcome, refused, changed, suits, add_tests, joined, addition_of, addition, remove_tests, without, removal}
+use Rattle.background.specs.Change.{Outcome, suits, add_tests, joined, addition_of, addition, remove_tests, without, removal}
 use Rattle.background.specs.Mean.{mean_tests, mean_answer, mean_output}
 use Rattle.background.specs.History.{Addition, Operation, adds, removes, outcome, after_outcome, history, except, left_after, survivors}
 use Rattle.background_laws.proofs.Order.{Same, same_refl, same_append, same_length, same-raster, same-tolerance, sum_both, without-sum}
@@ -88,9 +89,9 @@ Distinct ms = (n : ℕ) → named n ms ≤ 1
 -- ---- additions, and the members that they give
 
 -- the samples of a file
-raster_in : Still → List ℕ → List ℕ
-raster_in (Still.Refused r) file = []
-raster_in (Still.Picture W H c start) file = drop start file
+raster_in : Result Picture Refusal → List ℕ → List ℕ
+raster_in (Err r) file = []
+raster_in (Ok p) file = drop p.start file
 
 abbrev member_of : Addition → Member
 member_of a = member a.number a.tolerance (raster_in (still_of a.file) a.file)
@@ -98,10 +99,14 @@ member_of a = member a.number a.tolerance (raster_in (still_of a.file) a.file)
 abbrev given : List Addition → List Member
 given xs = map member_of xs
 
+-- a picture by its size and the place of its raster
+abbrev picture : ℕ → ℕ → ℕ → ℕ → Picture
+picture W H c start = record { width = W; height = H; channels = c; start = start }
+
 -- an addition that can follow k others, all of one size
 record Follows (W H c k : ℕ) (a : Addition) : Type 0 where
   start : ℕ
-  read : still_of a.file ≡ Still.Picture W H c start
+  read : still_of a.file ≡ Ok (picture W H c start)
   few : k < 1000
   room : room_for (suc k) (W * H * c) a.bytes a.words ≡ true
 
@@ -173,8 +178,8 @@ suits_chain W H c b (x ∷ xs) e n h = go (eqb (stills b) 0) refl e
         let q = (and-eq-true_iff (eqb b.width W) (eqb b.height H)).0 p.0 in
         rw (sym (eqb-true b.width W q.0), sym (eqb-true b.height H q.1), sym (eqb-true b.channels c p.1)) h
 
-pub never : {b : Background} (n : ℕ) → refused n ≡ changed b → ⊥
-never n e = let z : ◌≡◌ {A = ℕ} 0 1 = cc in omega arith
+pub never : {b : Background} (r : Refusal) → ◌≡◌ {A = Outcome} (Err r) (Ok b) → ⊥
+never r e = cc
 
 -- one member more, of a new number
 distinct_more : (ms : List Member) (m : Member) → Distinct ms → named m.number ms ≡ 0 → Distinct (ms ++ (m ∷ []))
@@ -196,7 +201,7 @@ distinct_same s d n = omega (arith, d n, s.sums (only n (λ m. 1)))
 
 -- an addition that is accepted
 module _ (a : Addition) (b : Background) (xs : List Addition) (k : Accounts b xs) where
-  joined-kept : (W H c start : ℕ) → still_of a.file ≡ Still.Picture W H c start → AllPass (add_tests a.number W H c a.bytes a.words b)
+  joined-kept : (W H c start : ℕ) → still_of a.file ≡ Ok (picture W H c start) → AllPass (add_tests a.number W H c a.bytes a.words b)
       → Accounts (joined W H c (member a.number a.tolerance (drop start a.file)) b) (xs ++ (a ∷ []))
   unfolding add_tests present raster_in
   joined-kept W H c start e p =
@@ -212,17 +217,17 @@ module _ (a : Addition) (b : Background) (xs : List Addition) (k : Accounts b xs
             (record { start = start; read = e; few = ltb-true (stills b) 1000 p.1.1.1.0; room = p.1.1.1.1.0 });
       }
 
-  added : (b' : Background) → outcome (adds a) b ≡ changed b' → Accounts b' (xs ++ (a ∷ []))
+  added : (b' : Background) → outcome (adds a) b ≡ Ok b' → Accounts b' (xs ++ (a ∷ []))
   unfolding outcome addition
   added b' e = go (still_of a.file) refl e
     where
-      go : (s : Still) → still_of a.file ≡ s → addition_of s a.file a.number a.tolerance a.bytes a.words b ≡ changed b'
+      go : (s : Result Picture Refusal) → still_of a.file ≡ s → addition_of s a.file a.number a.tolerance a.bytes a.words b ≡ Ok b'
           → Accounts b' (xs ++ (a ∷ []))
-      go (Still.Refused r) d f = absurd (never r f)
-      go (Still.Picture W H c start) d f =
-          let p = passed refused (add_tests a.number W H c a.bytes a.words b) _ (changed b') never f in
-          let is : joined W H c (member a.number a.tolerance (drop start a.file)) b ≡ b' = cc in
-          subst (λ (z : Background). Accounts z (xs ++ (a ∷ []))) is (joined-kept W H c start d p.0)
+      go (Err r) d f = absurd (never r f)
+      go (Ok s) d f =
+          let p = passed {A = Outcome} Err (add_tests a.number s.width s.height s.channels a.bytes a.words b) _ (Ok b') never f in
+          let is : joined s.width s.height s.channels (member a.number a.tolerance (drop s.start a.file)) b ≡ b' = cc in
+          subst (λ (z : Background). Accounts z (xs ++ (a ∷ []))) is (joined-kept s.width s.height s.channels s.start d p.0)
 
 -- a sum over the additions, split: those that stay, and those of number n
 except-sum : (f : Member → ℕ) (n : ℕ) (xs : List Addition) → sum (map f (given (except n xs))) + sum (map (only n f) (given xs)) ≡ sum (map f (given xs))
@@ -269,10 +274,10 @@ module _ (n : ℕ) (b : Background) (xs : List Addition) (k : Accounts b xs) (th
   left_distinct j = omega (arith, left_sum (only j (λ m. 1)), k.distinct j)
 
 module _ (n rasters labels : ℕ) (b : Background) (xs : List Addition) (k : Accounts b xs) where
-  removed : (b' : Background) → outcome (removes n rasters labels) b ≡ changed b' → Accounts b' (except n xs)
+  removed : (b' : Background) → outcome (removes n rasters labels) b ≡ Ok b' → Accounts b' (except n xs)
   unfolding outcome removal remove_tests present left
   removed b' e =
-      let p = passed refused (remove_tests n rasters labels b) _ (changed b') never e in
+      let p = passed {A = Outcome} Err (remove_tests n rasters labels b) _ (Ok b') never e in
       let there = ltb-true (place n b.members) (stills b) p.0.1.0 in
       let is : record { width = b.width; height = b.height; channels = b.channels; members = left n b xs k there } ≡ b' = cc in
       subst (λ (z : Background). Accounts z (except n xs)) is
@@ -283,9 +288,9 @@ kept_after : (o : Operation) (b : Background) (xs : List Addition) → Accounts 
 kept_after o b xs k = go o (outcome o b) refl
   where
     go : (o : Operation) (r : Outcome) → outcome o b ≡ r → Accounts (after_outcome r b) (left_after o r xs)
-    go o (refused n) e = k
-    go (adds a) (changed b') e = added a b xs k b' e
-    go (removes n rasters labels) (changed b') e = removed n rasters labels b xs k b' e
+    go o (Err r) e = k
+    go (adds a) (Ok b') e = added a b xs k b' e
+    go (removes n rasters labels) (Ok b') e = removed n rasters labels b xs k b' e
 
 kept-history : (os : List Operation) (b : Background) (xs : List Addition) → Accounts b xs → Accounts (history os b) (survivors os b xs)
 unfolding history survivors
@@ -328,7 +333,7 @@ module _ (W H c : ℕ) where
         room_fewer n (suc (length (x ∷ xs))) (W * H * c) a.bytes a.words (omega arith) f.room,
       ) (or-true (eqb n 0))
 
-  built_joined : (xs : List Addition) (a : Addition) (start : ℕ) → still_of a.file ≡ Still.Picture W H c start
+  built_joined : (xs : List Addition) (a : Addition) (start : ℕ) → still_of a.file ≡ Ok (picture W H c start)
       → joined W H c (member a.number a.tolerance (drop start a.file)) (built W H c xs) ≡ built W H c (xs ++ (a ∷ []))
   unfolding built raster_in
   built_joined [] a start e = rw e
@@ -336,7 +341,7 @@ module _ (W H c : ℕ) where
 
   -- an addition is accepted
   built_more : (xs : List Addition) (a : Addition) → Follows W H c (length xs) a → named a.number (given xs) ≡ 0
-      → outcome (adds a) (built W H c xs) ≡ changed (built W H c (xs ++ (a ∷ [])))
+      → outcome (adds a) (built W H c xs) ≡ Ok (built W H c (xs ++ (a ∷ [])))
   unfolding outcome addition add_tests present
   built_more xs a f z =
       let b = built W H c xs in
@@ -350,7 +355,7 @@ module _ (W H c : ℕ) where
         count,
         lt-ltb (length xs) 1000 f.few,
         f.room,
-      ) (ap changed (built_joined xs a f.start f.read))
+      ) (ap Ok (built_joined xs a f.start f.read))
 
   -- each of them, one after the other
   replayed : (done : List Addition) {k : ℕ} {xs : List Addition} → Chain W H c k xs → k ≡ length done → Distinct (given (done ++ xs))
@@ -384,17 +389,17 @@ as_if_sized b ms s = record { answer = answered; output = λ r l out. rw (answer
     answered : (r l out : ℕ) → mean_answer r l out b ≡ mean_answer r l out (holding b ms)
     answered r l out = rw (same_length s, same-tolerance s)
 
-    written : (m : Mean) (out : List ℕ) → mean_output m b out ≡ mean_output m (holding b ms) out
-    written (Refused n) out = refl
-    written NoStills out = refl
-    written (Of k T n) out = rw (same-raster b (holding b ms) s refl)
+    written : (m : Result (Option Mean) Refusal) (out : List ℕ) → mean_output m b out ≡ mean_output m (holding b ms) out
+    written (Err r) out = refl
+    written (Ok None) out = refl
+    written (Ok (Some m)) out = rw (same-raster b (holding b ms) s refl)
 
 -- no members, whatever size was there before
 as_if_none : (b : Background) → Same b.members [] → AsIf b empty
 unfolding mean_answer
 as_if_none b s = record { answer = answered; output = λ r l out. rw (answered r l (length out)); same = s }
   where
-    answered : (r l out : ℕ) → mean_answer r l out b ≡ NoStills
+    answered : (r l out : ℕ) → mean_answer r l out b ≡ Ok None
     answered r l out = rw (same_length s)
 
 as_if_built : (b : Background) (xs : List Addition) → Same b.members (given xs) → AsIf b (built b.width b.height b.channels xs)

@@ -1,7 +1,7 @@
 -- The mean and its answer on what lent memory holds. Assumes nothing.
 use Prim.Native.Nat.{ℕ, ◌+◌, ◌*◌, ◌≤◌, ◌<◌, min}
 use native.Mathlib.Omega.{arith}
-use mathlib.Core.Path.{◌≡◌, refl, sym, ◌∙◌}
+use mathlib.Core.Path.{◌≡◌, refl, sym, ap, ◌∙◌}
 use mathlib.Core.Bool.{Bool, true, false, cond}
 use mathlib.Core.List.{List, [], ◌∷◌, ◌++◌}
 use lib.ListN.{get_or, take, drop}
@@ -13,11 +13,13 @@ use Rattle.lists.specs.Tabulate.{tabulate}
 use Rattle.lists.proofs.Sums.{map-tabulate}
 use Rattle.lists.proofs.Tabulate.{length-tabulate, tabulate_ext}
 use Rattle.model.specs.Outline.{largest}
-use Rattle.refusals.specs.Refusal as Refusal
+use Rattle.std.specs.Prelude.{Option, None, Some, Result, Ok, Err}
+use Rattle.refusals.specs.declared.Refusal.{Refusal}
+use Rattle.refusals.specs.declared.Refusal.TheVariants as Refusal
 use Rattle.refusals.specs.Refusal.{tested}
 use Rattle.refusals.proofs.Passed.{passed}
 use Rattle.answers.specs.declared.Held.{Held}
-use Rattle.answers.specs.declared.Mean.TheVariants.{Refused, NoStills, Of}
+use Rattle.answers.specs.declared.Mean.{Mean}
 use Rattle.background.specs.Background.{samples}
 use Rattle.background.specs.Room.{held_room}
 use Rattle.background.specs.Mean.{mean_of, samples_at, mean_raster, mean_tolerance, mean_tests, mean_answer}
@@ -33,6 +35,10 @@ module _ (h : Held) (rasters labels : List ℕ) where
   -- its T
   abbrev T : ℕ
   T = min (largest (tabulate (λ i. get_or labels (2 * i + 1) 0) h.count) + 32768) 16711680
+
+  -- its answer, with a T
+  abbrev pub answer_with : ℕ → Mean
+  answer_with t = record { stills = h.count; tolerance = t; len = size }
 
   tolerance_in : mean_tolerance (background_in h rasters labels).members ≡ T
   unfolding mean_tolerance
@@ -56,33 +62,38 @@ module _ (h : Held) (rasters labels : List ℕ) where
   size_in = refl
 
   pub answer_in : (bytes words out : ℕ) → mean_answer bytes words out (background_in h rasters labels)
-      ≡ cond (eqb h.count 0) NoStills (tested Refused ((held_room h bytes words, Refusal.room) ∷ (leb size out, Refusal.room) ∷ []) (Of h.count T size))
+      ≡ cond (eqb h.count 0) (Ok None) (tested Err ((held_room h bytes words, Refusal.Room) ∷ (leb size out, Refusal.Room) ∷ []) (Ok (Some (answer_with T))))
   unfolding mean_answer mean_tests
   answer_in bytes words out = rw (tolerance_in, held_in_lem h rasters labels, stills_in h rasters labels, size_in)
 
   -- what an answer with a mean has shown
-  pub record Shown (k n bytes words out : ℕ) : Type 0 where
-    pub stills_are : k ≡ h.count
-    pub length-is : n ≡ size
+  pub record Shown (m : Mean) (bytes words out : ℕ) : Type 0 where
+    pub stills_are : m.stills ≡ h.count
+    pub length-is : m.len ≡ size
     pub some : 0 < h.count
     pub lent : Lent h bytes words
     pub room : size ≤ out
 
-  pub shown : (bytes words out : ℕ) {k t n : ℕ} → mean_answer bytes words out (background_in h rasters labels) ≡ Of k t n → Shown k n bytes words out
-  shown bytes words out {k} {t} {n} e = go (eqb h.count 0) refl (sym (answer_in bytes words out) ∙ e)
+  pub shown : (bytes words out : ℕ) {m : Mean} → mean_answer bytes words out (background_in h rasters labels) ≡ Ok (Some m) → Shown m bytes words out
+  shown bytes words out {m} e = go (eqb h.count 0) refl (sym (answer_in bytes words out) ∙ e)
     where
-      go : (b : Bool) → eqb h.count 0 ≡ b → cond b NoStills (tested Refused ((held_room h bytes words, Refusal.room) ∷ (leb size out, Refusal.room) ∷ []) (Of h.count T size)) ≡ Of k t n → Shown k n bytes words out
-      go true z f = let z : ◌≡◌ {A = ℕ} 0 1 = cc in absurd (omega arith)
+      go : (b : Bool) → eqb h.count 0 ≡ b
+          → cond b (Ok None) (tested Err ((held_room h bytes words, Refusal.Room) ∷ (leb size out, Refusal.Room) ∷ []) (Ok (Some (answer_with T)))) ≡ Ok (Some m)
+          → Shown m bytes words out
+      go true z f = absurd cc
       go false z f =
-          let p = passed Refused ((held_room h bytes words, Refusal.room) ∷ (leb size out, Refusal.room) ∷ []) (Of h.count T size) (Of k t n) (λ m g. let y : ◌≡◌ {A = ℕ} 0 1 = cc in omega arith) f in
+          let p =
+          passed {A = Result (Option Mean) Refusal} Err ((held_room h bytes words, Refusal.Room) ∷ (leb size out, Refusal.Room) ∷ []) (Ok (Some (answer_with T))) (Ok (Some m)) (λ r g. cc) f in
           let q = p.1 in
+          let is : m ≡ answer_with T = cc in
           let some : 0 < h.count = above h.count (eqb-false h.count 0 z) in
-          record { stills_are = (let a : h.count ≡ k = cc in sym a); length-is = (let a : size ≡ n = cc in sym a); some = some; lent = held_lent h bytes words p.0.0 some; room = leb-true size out p.0.1.0 }
+          record { stills_are = ap (λ (k : Mean). k.stills) is; length-is = ap (λ (k : Mean). k.len) is; some = some; lent = held_lent h bytes words p.0.0 some; room = leb-true size out p.0.1.0 }
         where
           above : (m : ℕ) → (m ≡ 0 → ⊥) → 0 < m
           above m d = omega (arith, d)
 
   -- the raster that was written is the mean still
-  pub written : (out : List ℕ) {k n bytes words room : ℕ} {out' : List ℕ} → Shown k n bytes words room → out' ≡ tabulate (λ j. nearest (place_sum rasters n k j) k) n ++ drop n out
-      → out' ≡ mean_raster (background_in h rasters labels) ++ drop n out
+  pub written : (out : List ℕ) {m : Mean} {bytes words room : ℕ} {out' : List ℕ} → Shown m bytes words room
+      → out' ≡ tabulate (λ j. nearest (place_sum rasters m.len m.stills j) m.stills) m.len ++ drop m.len out
+      → out' ≡ mean_raster (background_in h rasters labels) ++ drop m.len out
   written out s e = rw raster_in_lem (rw (s.stills_are, s.length-is) at e ∙ rw s.length-is)

@@ -10,18 +10,18 @@ use lib.Dec.{eqb, ltb}
 use borrow.Author.Tests.{ltb-true, ltb-false, eqb-true, eqb-false}
 use Rattle.lists.specs.Tabulate.{tabulate}
 use Rattle.lists.proofs.Tabulate.{length-tabulate, get_d_tabulate, tabulate_ext}
-use Rattle.refusals.specs.Refusal.{Test, tested}
-use Rattle.refusals.proofs.Passed.{passed}
+use Rattle.std.specs.Prelude.{Result, Ok, Err}
+use Rattle.refusals.specs.declared.Refusal.{Refusal}
+use Rattle.refusals.specs.Refusal.{tested, verdict}
+use Rattle.refusals.proofs.Passed.{passed, passed_all, passed_whole, refused-whole, refused_tests}
 use Rattle.answers.specs.declared.Held.{Held}
-use Rattle.answers.specs.declared.Changed.TheVariants as Changed
 use Rattle.background.specs.Background.{Member, member, Background, stills, numbers, position}
 use Rattle.background.specs.Room.{held_of}
-use Rattle.background.specs.Change.{refused, changed, remove_tests, without, removal}
+use Rattle.background.specs.Change.{Outcome, remove_tests, without, removal}
 use Rattle.background.specs.Memory.{slot, member_in, background_in, Lies, Changes}
 use Rattle.background_slots.specs.Slot.{with_raster, with_labels}
 use Rattle.background_slots.proofs.Holding.{slot_of, numbers_in}
 use Rattle.background_slots.proofs.HeldRoom.{Lent, held_lent}
-use Rattle.background_removals.specs.declared.Found.{Found}
 use Rattle.background_removals.proofs.Tests.{remove_tests_in}
 use Rattle.background_slots.proofs.Members.{member_here, member_elsewhere, drop_behind, raster-length, raster-same, slot-length, labels_length, labels_behind, labels_same}
 
@@ -130,59 +130,48 @@ module _ (h : Held) (rasters labels : List ℕ) (i : ℕ) (found : i < h.count) 
 
 -- ---- by the answer of the tests
 
--- the same tests refuse, whatever is answered by them
-refused_too : {A B : Type 0} (f : ℕ → A) (g : ℕ → B) (ts : List Test) (x : A) (y : B) (n : ℕ) → ((m : ℕ) → f m ≡ f n → m ≡ n) → (x ≡ f n → ⊥) → tested f ts x ≡ f n → tested g ts y ≡ g n
-refused_too f g [] x y n same other e = absurd (other e)
-refused_too f g ((true, m) ∷ ts) x y n same other e = refused_too f g ts x y n same other e
-refused_too f g ((false, m) ∷ ts) x y n same other e = ap g (same m e)
-
-passed_too : {A B : Type 0} (f : ℕ → A) (g : ℕ → B) (ts : List Test) (x z : A) (y : B) → ((n : ℕ) → f n ≡ z → ⊥) → tested f ts x ≡ z → tested g ts y ≡ y
-passed_too f g [] x z y never e = refl
-passed_too f g ((true, m) ∷ ts) x z y never e = passed_too f g ts x z y never e
-passed_too f g ((false, m) ∷ ts) x z y never e = absurd (never m e)
-
 -- where a removal finds its still
-abbrev pub found_in : ℕ → Held → List ℕ → List ℕ → Found
+abbrev pub found_in : ℕ → Held → List ℕ → List ℕ → Result ℕ Refusal
 found_in n h rasters labels =
-    tested Found.Refused (remove_tests n (length rasters) (length labels) (background_in h rasters labels)) (Found.Slot (position n (numbers (background_in h rasters labels))))
-
-never : {i : ℕ} (n : ℕ) → Found.Refused n ≡ Found.Slot i → ⊥
-never n f = let z : ◌≡◌ {A = ℕ} 0 1 = cc in omega arith
+    tested Err (remove_tests n (length rasters) (length labels) (background_in h rasters labels)) (Ok (position n (numbers (background_in h rasters labels))))
 
 module _ (n : ℕ) (h : Held) (rasters labels : List ℕ) where
-  pub removal-refused : {r : ℕ} → found_in n h rasters labels ≡ Found.Refused r
-      → Changes (removal n (length rasters) (length labels) (background_in h rasters labels)) rasters rasters labels labels (Changed.Refused r)
+  pub removal-refused : {r : Refusal} → found_in n h rasters labels ≡ Err r
+      → Changes (removal n (length rasters) (length labels) (background_in h rasters labels)) rasters rasters labels labels (Err r)
   unfolding removal
-  removal-refused {r} e =
-      rw (refused_too Found.Refused refused _ (Found.Slot (position n (numbers (background_in h rasters labels)))) (changed _) r (λ m f. cc) (λ f. let z : ◌≡◌ {A = ℕ} 0 1 = cc in omega arith) e) (record { answered = refl; left = (refl, refl) })
+  removal-refused e =
+      let tests = remove_tests n (length rasters) (length labels) (background_in h rasters labels) in
+      let refused : verdict tests ≡ Err _ = refused_tests Err (λ l m f. cc) tests _ (λ k f. cc) e in
+      rw (refused-whole {A = Outcome} Err _ tests refused) (record { answered = refl; left = (refl, refl) })
 
   -- what finding it has shown
   pub record Finds (i : ℕ) : Type 0 where
+    pub passed : verdict (remove_tests n (length rasters) (length labels) (background_in h rasters labels)) ≡ Ok tt
     pub place : position n (numbers (background_in h rasters labels)) ≡ i
     pub found : i < h.count
     pub lent : Lent h (length rasters) (length labels)
 
-  pub finds : {i : ℕ} → found_in n h rasters labels ≡ Found.Slot i → Finds i
+  pub finds : {i : ℕ} → found_in n h rasters labels ≡ Ok i → Finds i
   finds {i} e =
       let b = background_in h rasters labels in
-      let p = passed Found.Refused (remove_tests n (length rasters) (length labels) b) (Found.Slot (position n (numbers b))) (Found.Slot i) never e in
+      let p = passed {A = Result ℕ Refusal} Err (remove_tests n (length rasters) (length labels) b) (Ok (position n (numbers b))) (Ok i) (λ r f. cc) e in
       let q = rw (remove_tests_in n (length rasters) (length labels) h rasters labels) at p.0 in
       let at : position n (numbers b) ≡ i = let f = p.1 in cc in
       let there : i < h.count = rw (sym (ap (position n) (numbers_in h rasters labels)) ∙ at) at (ltb-true (slot_of n labels h.count) h.count q.1.0) in
-      record { place = at; found = there; lent = held_lent h (length rasters) (length labels) q.0 (omega (arith, there)) }
+      record { passed = passed_all _ p.0; place = at; found = there; lent = held_lent h (length rasters) (length labels) q.0 (omega (arith, there)) }
 
-  pub removed : {i : ℕ} {rasters' labels' : List ℕ} → found_in n h rasters labels ≡ Found.Slot i
+  pub removed : {i : ℕ} {rasters' labels' : List ℕ} → found_in n h rasters labels ≡ Ok i
       → rasters' ≡ with_raster (h.width * h.height * h.channels) i (slot (h.width * h.height * h.channels) (h.count - 1) rasters) rasters
       → labels' ≡ with_labels i (get_or labels (2 * (h.count - 1)) 0) (get_or labels (2 * (h.count - 1) + 1) 0) labels
       → Changes (removal n (length rasters) (length labels) (background_in h rasters labels)) rasters rasters' labels labels'
-      (Changed.Holds (record { count = h.count - 1; width = h.width; height = h.height; channels = h.channels }))
+      (Ok (record { count = h.count - 1; width = h.width; height = h.height; channels = h.channels }))
   unfolding removal background_in
   removed {i} e er el =
       let f = finds e in
       let room = f.lent.rasters-inside in
       let space = f.lent.labels-inside in
-      rw (passed_too Found.Refused refused _ _ (Found.Slot i) (changed _) never e, f.place, er, el)
+      rw (passed_whole {A = Outcome} Err _ _ f.passed, f.place, er, el)
       (record {
-        answered = ap (λ (k : ℕ). Changed.Holds (record { count = k; width = h.width; height = h.height; channels = h.channels })) (sym (one_less h rasters labels i f.found room space));
+        answered = ap (λ (k : ℕ). Ok (record { count = k; width = h.width; height = h.height; channels = h.channels })) (sym (one_less h rasters labels i f.found room space));
         left = removed_lies h rasters labels i f.found room space;
       })

@@ -3,7 +3,8 @@ use Prim.Native.Nat.{ℕ}
 use mathlib.Core.Path.{◌≡◌}
 use mathlib.Core.List.{List, [], ◌∷◌}
 use lib.Dec.{ltb}
-use Rattle.refusals.specs.Refusal as Refusal
+use Rattle.refusals.specs.declared.Refusal.{Refusal}
+use Rattle.refusals.specs.declared.Refusal.TheVariants as Refusal
 use Rattle.answers.specs.declared.Held.{Held}
 use Rattle.background.specs.Background.{present}
 use Rattle.background.specs.Room.{held_room}
@@ -13,6 +14,6 @@ use Rattle.background_slots.proofs.Holding.{slot_of, stills_in, held_in_lem, num
 
 module _ (n bytes words : ℕ) (h : Held) (rasters labels : List ℕ) where
   pub remove_tests_in : remove_tests n bytes words (background_in h rasters labels)
-      ≡ (held_room h bytes words, Refusal.room) ∷ (ltb (slot_of n labels h.count) h.count, Refusal.still_number) ∷ []
+      ≡ (held_room h bytes words, Refusal.Room) ∷ (ltb (slot_of n labels h.count) h.count, Refusal.StillNumber) ∷ []
   unfolding remove_tests present
   remove_tests_in = rw (held_in_lem h rasters labels, numbers_in h rasters labels, stills_in h rasters labels)

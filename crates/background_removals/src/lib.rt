@@ -7,30 +7,18 @@ ghost use Rattle.background.specs.Background.{numbers, position};
 ghost use Rattle.background.specs.Change.{remove_tests, removal};
 ghost use Rattle.background.specs.Memory.{slot, background_in, Changes};
 ghost use Rattle.background_slots.specs.Slot.{with_raster, with_labels};
-ghost use Rattle.background_removals.specs.declared.Found.TheVariants as Found;
 
-use answers::{Changed, Held};
-
-// Where a removal finds its still.
-#[derive(Clone, Copy)]
-enum Found {
-    Refused(u8),
-    Slot(usize),
-}
+use answers::Held;
+use refusals::Refusal;
 
 // The tests of a removal, and the slot of its still.
-fn remove_tests(held: Held, number: u32, rasters: &[u8], labels: &[u32]) -> Found
-    ensures { result ≡ tested Found.Refused (remove_tests number (length rasters.now) (length labels.now) (background_in held rasters.now labels.now)) (Found.Slot (position number (numbers (background_in held rasters.now labels.now)))) }
+fn remove_tests(held: Held, number: u32, rasters: &[u8], labels: &[u32]) -> Result<usize, Refusal>
+    ensures { result ≡ tested Err (remove_tests number (length rasters.now) (length labels.now) (background_in held rasters.now labels.now)) (Ok (position number (numbers (background_in held rasters.now labels.now)))) }
 {
-    let count = held.count;
     if !background_slots::held_room(held, rasters.len(), labels.len()) {
-        return Found::Refused(refusals::ROOM);
+        return Err(Refusal::Room);
     }
-    let i = background_slots::find(labels, count, number);
-    if i < count {
-        return Found::Slot(i);
-    }
-    Found::Refused(refusals::STILL_NUMBER)
+    background_slots::find(labels, held.count, number).ok_or(Refusal::StillNumber)
 }
 
 // The last still into the gap.
@@ -45,24 +33,20 @@ fn close_gap(gap: usize, last: usize, size: usize, rasters: &mut [u8], labels: &
 }
 
 // Remove the still of a number: what is held afterwards, or refusal 20 or 23.
-pub fn remove_still(held: Held, number: u32, rasters: &mut [u8], labels: &mut [u32]) -> Changed
+pub fn remove_still(
+    held: Held,
+    number: u32,
+    rasters: &mut [u8],
+    labels: &mut [u32],
+) -> Result<Held, Refusal>
     ensures { Changes (removal number (length rasters.old) (length labels.old) (background_in held rasters.old labels.old)) rasters.old rasters.new labels.old labels.new result }
 {
-    let count = held.count;
-    let width = held.width;
-    let height = held.height;
-    let channels = held.channels;
-    match remove_tests(held, number, rasters, labels) {
-        Found::Refused(n) => Changed::Refused(n),
-        Found::Slot(gap) => {
-            let last = count - 1;
-            close_gap(gap, last, width * height * channels, rasters, labels);
-            Changed::Holds(Held {
-                count: last,
-                width,
-                height,
-                channels,
-            })
-        }
-    }
+    let gap = remove_tests(held, number, rasters, labels)?;
+    let last = held.count - 1;
+    let size = background_slots::raster_size(held);
+    close_gap(gap, last, size, rasters, labels);
+    Ok(Held {
+        count: last,
+        ..held
+    })
 }

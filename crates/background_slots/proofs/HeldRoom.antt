@@ -33,7 +33,8 @@ inside k size rasters labels e =
     (leb-true _ _ p.0, leb-true _ _ p.1)
 
 pub record Lent (h : Held) (rasters labels : ℕ) : Type 0 where
-  pub small-numbers : Small h
+  pub small-numbers : small_numbers h ≡ true
+  pub few : h.count ≤ 65535
   pub rasters-inside : h.count * (h.width * h.height * h.channels) ≤ rasters
   pub labels-inside : 2 * h.count ≤ labels
 
@@ -44,7 +45,7 @@ held_lent h rasters labels e n =
     let f : (small_numbers h && room_for h.count size rasters labels) ≡ true = rw (ne_eqb h.count 0 (λ z. omega (arith, z, n))) at e in
     let p = (and-eq-true_iff (small_numbers h) (room_for h.count size rasters labels)).0 f in
     let i = inside h.count size rasters labels p.1 in
-    record { small-numbers = small h p.0; rasters-inside = i.0; labels-inside = i.1 }
+    record { small-numbers = p.0; few = (small h p.0).count; rasters-inside = i.0; labels-inside = i.1 }
 
 -- labels of stills that have their room can be read, also where there are none
 pub labels_lent : (h : Held) (rasters labels : ℕ) → held_room h rasters labels ≡ true → 2 * h.count ≤ labels

@@ -43,10 +43,8 @@ fn offsets(r: usize) -> [u8; 31]
     ensures { (31 ≡ length result) × (take (2 * r + 1) result ≡ tabulate (λ k. 15 + k - r) (2 * r + 1)) }
 {
     let mut held = [0u8; 31];
-    let mut k = 0;
-    while k <= 2 * r {
+    for k in 0..2 * r + 1 {
         held[k] = (15 + k - r) as u8;
-        k += 1;
     }
     held
 }
@@ -57,10 +55,8 @@ fn numerators(r: usize) -> [u64; 31]
     ensures { (31 ≡ length result) × (take (2 * r + 1) result ≡ tabulate (λ k. 2 ^ 38 + choose (2 * r) k) (2 * r + 1)) }
 {
     let mut held = [0u64; 31];
-    let mut k = 0;
-    while k <= 2 * r {
-        held[k] = 274877906944 + coefficient(r, k) as u64;
-        k += 1;
+    for k in 0..2 * r + 1 {
+        held[k] = 274877906944 + u64::from(coefficient(r, k));
     }
     held
 }

@@ -18,11 +18,11 @@ use Rattle.window_means.specs.WindowCorners.{corners_at, full_corners}
 module _ (f : Frame) (w : Window) (samples : List ℕ) where
   -- a list whose front is row y of the table
   abbrev pub Row : List ℕ → ℕ → Type 0
-  Row l y = (i : ℕ) → i < table_width f.width w → get_or l i 0 ≡ entry f w samples i y
+  Row l y = (i : ℕ) → i < table_width f.width w.r → get_or l i 0 ≡ entry f w samples i y
 
-  full_row : (y : ℕ) → y < f.height + 2 * w.s + 1 → Row (drop (y * table_width f.width w) (full_table f w samples)) y
+  full_row : (y : ℕ) → y < f.height + 2 * w.s + 1 → Row (drop (y * table_width f.width w.r) (full_table f w samples)) y
   unfolding full_table
-  full_row y h i k = get_or-drop (y * table_width f.width w) _ i 0 ∙ get_or-raster (entry f w samples) (table_width f.width w) (f.height + 2 * w.s + 1) i y 0 k h
+  full_row y h i k = get_or-drop (y * table_width f.width w.r) _ i 0 ∙ get_or-raster (entry f w samples) (table_width f.width w.r) (f.height + 2 * w.s + 1) i y 0 k h
 
   module _ (sums : List ℕ) (v : ℕ) (held : HeldTable f w samples (v + (2 * w.s + 1)) sums) where
     pub upper_held : Row (drop (row_start f.width w v) sums) v
@@ -35,8 +35,8 @@ module _ (f : Frame) (w : Window) (samples : List ℕ) where
     pub as_full_table : (u : ℕ) → u < f.width → v < f.height → corners_at sums f.width w u v ≡ full_corners f w samples u v
     unfolding corners_at full_corners corners
     as_full_table u hu hv =
-        let far : 2 * w.r + 1 + u < table_width f.width w = omega arith in
-        let near : u < table_width f.width w = omega arith in
+        let far : 2 * w.r + 1 + u < table_width f.width w.r = omega arith in
+        let near : u < table_width f.width w.r = omega arith in
         let high : v < f.height + 2 * w.s + 1 = omega arith in
         let low : v + (2 * w.s + 1) < f.height + 2 * w.s + 1 = omega arith in
         rw (

@@ -28,12 +28,12 @@ use Rattle.boxes.proofs.FullTable.{Row, upper_held, lower_held}
 use Rattle.area_tables.proofs.Sums.{window-total}
 use Rattle.mean_rows.proofs.Corners.{difference_is_sum}
 
-module _ (f : Frame) (w : Window) (samples : List ℕ) (hr : w.r ≤ 15) (hs : w.s ≤ 15) where
+module _ (f : Frame) (w : Window) (samples : List ℕ) where
   -- the window of column u, row v, in the extended frame
   window-extended : (u v : ℕ) → window w.r w.s (neighbours f samples u v) ≡ raster (λ i j. extended f w samples (u + i) (v + j)) (2 * w.r + 1) (2 * w.s + 1)
   unfolding extended
   window-extended u v =
-      window-padded f samples w.r w.s u v hr hs
+      window-padded f samples w.r w.s u v w.near.0 w.near.1
       ∙ raster_ext _ _ (2 * w.r + 1) (2 * w.s + 1) (λ i j _ _. rw (add_assoc (15 - w.r) u i, add_assoc (15 - w.s) v j))
 
   -- the sum of the first x columns and y rows
@@ -57,15 +57,15 @@ module _ (f : Frame) (w : Window) (samples : List ℕ) (hr : w.r ≤ 15) (hs : w
     -- so it is below 2^32
     window_sum_small : (u v : ℕ) → sum (window w.r w.s (neighbours f samples u v)) < 2 ^ 32
     unfolding area
-    window_sum_small u v = omega (arith, window-sum-le u v, area-le w.r w.s 15 15 hr hs)
+    window_sum_small u v = omega (arith, window-sum-le u v, area-le w.r w.s 15 15 w.near.0 w.near.1)
 
     -- the difference of a window's four corners is its sum, for two rows of the table wherever they lie
     pub edges_sum : (upper lower : List ℕ) (u v : ℕ) → u < f.width → Row f w samples upper v → Row f w samples lower (v + (2 * w.s + 1)) → corners upper lower (2 * w.r + 1) u ≡ sum (window w.r w.s (neighbours f samples u v))
     unfolding corners entry
     edges_sum upper lower u v hu above below =
         let right : 2 * w.r + 1 + u ≡ u + (2 * w.r + 1) = omega arith in
-        let far : u + (2 * w.r + 1) < table_width f.width w = omega arith in
-        let near : u < table_width f.width w = omega arith in
+        let far : u + (2 * w.r + 1) < table_width f.width w.r = omega arith in
+        let near : u < table_width f.width w.r = omega arith in
         rw (right, below (u + (2 * w.r + 1)) far, above u near, above (u + (2 * w.r + 1)) far, below u near)
         (difference_is_sum (sum (window w.r w.s (neighbours f samples u v))) (all (u + (2 * w.r + 1)) (v + (2 * w.s + 1))) (all (u + (2 * w.r + 1)) v) (all u (v + (2 * w.s + 1))) (all u v)
         (window_sum_small u v) (window-corners u v))

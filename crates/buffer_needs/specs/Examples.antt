@@ -1,15 +1,14 @@
 -- Worked examples of needs. A row names the cases, what the definitions give, and what they should give: a refusal of each, or work bytes, row values, sums, bytes of output
 -- and T. The theorem at the end goes over all rows.
-use Rattle.std.specs.Prelude.{ℕ, List, [], ◌∷◌, ◌++◌, map, ◌≡◌, refl, false}
+use Rattle.std.specs.Prelude.{ℕ, List, [], ◌∷◌, ◌++◌, map, ◌≡◌, refl, false, Result, Ok, Err}
 use Prim.Native.String.{String}
-use Rattle.refusals.specs.Refusal as Refusal
-use Rattle.refusals.specs.Refusal.{Test}
+use Rattle.refusals.specs.declared.Refusal.{Refusal}
+use Rattle.refusals.specs.Refusal.{Test, number}
 use Rattle.model.specs.Border.{nearest}
 use Rattle.model.specs.Stage.{Work, box, rank, outline, Stage, stage}
 use Rattle.model.specs.Tolerance.{growth, after_stage, tolerance_from, tolerance}
-use Rattle.answers.specs.declared.Still.{Still}
+use Rattle.answers.specs.declared.Picture.{Picture}
 use Rattle.answers.specs.declared.Needs.{Needs}
-use Rattle.answers.specs.declared.Needs.TheVariants.{Refused, Lengths}
 use Rattle.header_writer.specs.Heading.{decimal_in, decimal, magic_line, header_bytes}
 use Rattle.table_sizes.specs.Needs.{work_sums, sum_need}
 use Rattle.filter_answers.specs.FileAnswer.{file_size}
@@ -28,20 +27,20 @@ unfoldable pub doing : List Work → List Stage
 doing = map (stage nearest 0)
 
 -- a header of this size and so many channels, of 13 bytes
-unfoldable pub head : ℕ → ℕ → ℕ → Still
-head W H c = Still.Picture W H c 13
+unfoldable pub head : ℕ → ℕ → ℕ → Result Picture Refusal
+head W H c = Ok (record { width = W; height = H; channels = c; start = 13 })
 
 -- a recipe's own test that fails: an unknown kind
 unfoldable pub unknown : List Test
-unknown = (false, Refusal.kind) ∷ []
+unknown = (false, Refusal.Kind) ∷ []
 
 -- an answer's numbers
-unfoldable pub numbers : Needs → List ℕ
-numbers (Refused n) = n ∷ []
-numbers (Lengths works rows sums out T) = works ∷ rows ∷ sums ∷ out ∷ T ∷ []
+unfoldable pub numbers : Result Needs Refusal → List ℕ
+numbers (Err r) = number r ∷ []
+numbers (Ok n) = n.works ∷ n.rows ∷ n.sums ∷ n.out ∷ n.tolerance ∷ []
 
 -- what an accepted recipe that does this needs
-unfoldable pub needed : List Work → Still → List ℕ
+unfoldable pub needed : List Work → Result Picture Refusal → List ℕ
 needed works s = numbers (recipe_needs [] (doing works) s)
 
 unfoldable pub rows : List Example
@@ -51,8 +50,8 @@ rows =
     ∷ row "a box of radii 1 and 2 on 5 by 4: 6 rows of 8 sums" (needed (box 1 2 ∷ []) (head 5 4 1)) (40 ∷ 170 ∷ 48 ∷ 31 ∷ 32768 ∷ [])
     ∷ row "of three boxes the one in the middle holds most" (needed (box 1 0 ∷ box 2 2 ∷ box 0 1 ∷ []) (head 5 4 1)) (40 ∷ 170 ∷ 60 ∷ 31 ∷ 98304 ∷ [])
     ∷ row "T is that of all stages: an outline multiplies what the box before it added" (needed (box 0 0 ∷ outline ∷ []) (head 10 9 1)) (180 ∷ 390 ∷ 22 ∷ 102 ∷ 196608 ∷ [])
-    ∷ row "the header's refusal" (needed (outline ∷ []) (Still.Refused 3)) (3 ∷ [])
-    ∷ row "the recipe's comes before it, and before what an accepted header needs" (numbers (recipe_needs unknown (doing (outline ∷ [])) (Still.Refused 3)) ++ numbers (recipe_needs unknown (doing (outline ∷ [])) (head 3 1 1))) (13 ∷ 13 ∷ [])
+    ∷ row "the header's refusal" (needed (outline ∷ []) (Err Refusal.Side)) (3 ∷ [])
+    ∷ row "the recipe's comes before it, and before what an accepted header needs" (numbers (recipe_needs unknown (doing (outline ∷ [])) (Err Refusal.Side)) ++ numbers (recipe_needs unknown (doing (outline ∷ [])) (head 3 1 1))) (13 ∷ 13 ∷ [])
     ∷ []
 
 -- every definition that an example runs through, opened by one name

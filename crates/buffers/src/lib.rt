@@ -9,11 +9,7 @@ pub fn copy_front(src: &[u8], dst: &mut [u8], n: usize)
     requires { (n ≤ length src.now) × (n ≤ length dst.old) }
     ensures { dst.new ≡ take n src.now ++ drop n dst.old }
 {
-    let mut i = 0;
-    while i < n {
-        dst[i] = src[i];
-        i += 1;
-    }
+    dst[..n].copy_from_slice(&src[..n]);
 }
 
 // The first n bytes of dst set to one value.
@@ -21,9 +17,5 @@ pub fn fill_front(dst: &mut [u8], n: usize, value: u8)
     requires { n ≤ length dst.old }
     ensures { dst.new ≡ tabulate (λ _. value) n ++ drop n dst.old }
 {
-    let mut i = 0;
-    while i < n {
-        dst[i] = value;
-        i += 1;
-    }
+    dst[..n].fill(value);
 }

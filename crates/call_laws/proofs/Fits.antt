@@ -7,13 +7,13 @@ use mathlib.Core.List.{List}
 use lib.ListN.{length, drop}
 use borrow.Author.Tests.{le-leb}
 use Rattle.refusals.specs.Refusal.{verdict}
-use Rattle.refusals.specs.declared.Verdict.TheVariants.{Passed}
+use Rattle.std.specs.Prelude.{Ok, Err}
+use Rattle.refusals.specs.declared.Refusal.TheVariants.{Room}
 use Rattle.refusals.proofs.Passed.{AllPass, all_pass, all_append, passed_all}
 use Rattle.model.specs.Stage.{stage}
 use Rattle.model.specs.Tolerance.{tolerance}
-use Rattle.answers.specs.declared.Still.TheVariants as Still
-use Rattle.answers.specs.declared.Recipe.TheVariants.{Stages}
-use Rattle.answers.specs.declared.File.TheVariants as File
+use Rattle.answers.specs.declared.Picture.{Picture}
+use Rattle.answers.specs.declared.Recipe.{Recipe}
 use Rattle.picture_sizes.proofs.PictureSizeLaws.{channels_few}
 use Rattle.still_reader.specs.Read.{still_of}
 use Rattle.header_writer.specs.Heading.{header_bytes}
@@ -28,7 +28,7 @@ use Rattle.recipe.proofs.Accepted.{recipe_read}
 use Rattle.table_sizes.specs.Needs.{work_sums, sum_need}
 use Rattle.room.specs.Room.{room_tests}
 use Rattle.filter_answers.specs.Limits.{archive}
-use Rattle.filter_answers.specs.FileAnswer.{file_size, picture_answer}
+use Rattle.filter_answers.specs.FileAnswer.{file_size, filtered, picture_answer}
 use Rattle.filter_answers.proofs.FileAccepted.{picture_read, file_refused, file_done}
 use Rattle.filter_answers.proofs.NoLimit.{archive_itself, stages_within, samples_within}
 use Rattle.program_filter.specs.Program.{program_lent, program_answer}
@@ -37,7 +37,7 @@ use Rattle.program_filter.specs.Program.{program_lent, program_answer}
 
 module _ (W : ℕ) where
   -- of a stage after its header bytes
-  work_most : (kind : ℕ) (b : List ℕ) → 1 ≤ kind → kind ≤ 6 → verdict (work_tests kind b) ≡ Passed → work_sums W (work_of kind b) ≤ (W + 31) * 32
+  work_most : (kind : ℕ) (b : List ℕ) → 1 ≤ kind → kind ≤ 6 → verdict (work_tests kind b) ≡ Ok tt → work_sums W (work_of kind b) ≤ (W + 31) * 32
   unfolding work_sums work_of weighted_work
   work_most zero b l h e = absurd (omega (arith, l))
   work_most (suc zero) b l h e = omega arith
@@ -57,19 +57,23 @@ module _ (W : ℕ) where
       let kind = head_known b parts.0 in
       omega (arith, work_most (at b 0) (drop 3 b) kind.0 kind.1 parts.1, stages_most k (drop (stage_length b) b) q.1)
 
-  pub sums_most : (b : List ℕ) → verdict (recipe_tests b) ≡ Passed → sum_need W (recipe_stages b) ≤ (W + 31) * 32
+  pub sums_most : (b : List ℕ) → verdict (recipe_tests b) ≡ Ok tt → sum_need W (recipe_stages b) ≤ (W + 31) * 32
   unfolding recipe_tests recipe_stages
   sums_most b e = stages_most (at b 0) (drop 1 b) (all_pass (recipe_tests b) e).1.1
 
 -- ---- the two sizes
 
-module _ (recipe still : List ℕ) {S T : ℕ} (accepted : recipe_of recipe ≡ Stages S T) {c start : ℕ} where
-  within_limits : {W H : ℕ} → still_of still ≡ Still.Picture W H c start → picture_answer archive recipe still ≡ File.Picture W H c (tolerance (recipe_stages recipe)) (file_size W H c)
+-- a picture of this size
+abbrev pub sized : ℕ → ℕ → ℕ → ℕ → Picture
+sized c start W H = record { width = W; height = H; channels = c; start = start }
+
+module _ (recipe still : List ℕ) {r : Recipe} (accepted : recipe_of recipe ≡ Ok r) {c start : ℕ} where
+  within_limits : {W H : ℕ} → still_of still ≡ Ok (sized c start W H) → picture_answer archive recipe still ≡ Ok (filtered (sized c start W H) (tolerance (recipe_stages recipe)))
   within_limits e =
       let v = (recipe_read recipe accepted).0 in
       picture_read archive recipe still v (stages_within archive_itself recipe v) e (samples_within archive_itself still e)
 
-  enough : still_of still ≡ Still.Picture 96 72 c start → verdict (room_tests 96 72 (recipe_stages recipe) (file_size 96 72 c) program_lent) ≡ Passed
+  enough : still_of still ≡ Ok (sized c start 96 72) → verdict (room_tests 96 72 (recipe_stages recipe) (file_size 96 72 c) program_lent) ≡ Ok tt
   unfolding room_tests file_size verdict
   enough e =
       rw (
@@ -78,13 +82,13 @@ module _ (recipe still : List ℕ) {S T : ℕ} (accepted : recipe_of recipe ≡ 
       )
 
   -- 96 by 72, of one channel or three: 20 is not answered, and no other refusal either
-  pub fits_96_by_72 : still_of still ≡ Still.Picture 96 72 c start → program_answer recipe still ≡ File.Picture 96 72 c T (file_size 96 72 c)
+  pub fits_96_by_72 : still_of still ≡ Ok (sized c start 96 72) → program_answer recipe still ≡ Ok (filtered (sized c start 96 72) r.tolerance)
   unfolding program_answer
   fits_96_by_72 e =
-      let r = recipe_read recipe accepted in
-      file_done archive recipe still program_lent (within_limits e) (enough e) ∙ rw r.1
+      let q = recipe_read recipe accepted in
+      file_done archive recipe still program_lent (within_limits e) (enough e) ∙ rw q.1
 
   -- 144 by 96: too few row values are lent
-  pub refused_144_by_96 : still_of still ≡ Still.Picture 144 96 c start → program_answer recipe still ≡ File.Refused 20
+  pub refused_144_by_96 : still_of still ≡ Ok (sized c start 144 96) → program_answer recipe still ≡ Err Room
   unfolding program_answer room_tests verdict
   refused_144_by_96 e = file_refused archive recipe still program_lent (within_limits e) refl

@@ -7,9 +7,10 @@ use mathlib.Core.List.{List, [], ◌∷◌, ◌++◌}
 use lib.Dec.{leb, eqb}
 use lib.IntN.{ℤ, pos, ◌+ℤ◌}
 use lib.ListN.{drop, length}
-use Rattle.refusals.specs.Refusal.{Test, tested}
-use Rattle.answers.specs.declared.Still.{Still}
-use Rattle.answers.specs.declared.Still.TheVariants.{Refused, Picture}
+use Rattle.std.specs.Prelude.{Result, Ok, Err}
+use Rattle.refusals.specs.declared.Refusal.{Refusal}
+use Rattle.refusals.specs.Refusal.{Test, tested, number}
+use Rattle.answers.specs.declared.Picture.{Picture}
 use Rattle.recipe_bytes.specs.Bytes.{at, signed8, there}
 use Rattle.stage_fields.specs.StageFields.{head_tests, radius_tests, position_tests}
 use Rattle.axis_fields.specs.AxisFields.{sizes_length, size_tests, offset_tests, axis_tests, real_tests, weight_tests}
@@ -25,14 +26,14 @@ use Rattle.still_reader.specs.Read.{raster_tests, with_raster, still_of}
 -- tests whose numbers are all of some sort
 abbrev pub numbered : (ℕ → Bool) → List Test → Bool
 numbered ok [] = true
-numbered ok (t ∷ ts) = ok t.1 && numbered ok ts
+numbered ok (t ∷ ts) = ok (number t.1) && numbered ok ts
 
 module _ (ok : ℕ → Bool) where
   pub numbered_append : (xs ys : List Test) → numbered ok xs ≡ true → numbered ok ys ≡ true → numbered ok (xs ++ ys) ≡ true
   numbered_append [] ys p q = q
   numbered_append (t ∷ xs) ys p q =
-      let h = (and-eq-true_iff (ok t.1) (numbered ok xs)).0 p in
-      (and-eq-true_iff (ok t.1) (numbered ok (xs ++ ys))).1 (h.0, numbered_append xs ys h.1 q)
+      let h = (and-eq-true_iff (ok (number t.1)) (numbered ok xs)).0 p in
+      (and-eq-true_iff (ok (number t.1)) (numbered ok (xs ++ ys))).1 (h.0, numbered_append xs ys h.1 q)
 
   pub numbered_cond : (s : Bool) (xs ys : List Test) → numbered ok xs ≡ true → numbered ok ys ≡ true → numbered ok (cond s xs ys) ≡ true
   numbered_cond true xs ys p q = p
@@ -42,15 +43,15 @@ module _ (ok : ℕ → Bool) where
   pub numbered_wider : (wide : ℕ → Bool) → ((n : ℕ) → ok n ≡ true → wide n ≡ true) → (ts : List Test) → numbered ok ts ≡ true → numbered wide ts ≡ true
   numbered_wider wide w [] p = refl
   numbered_wider wide w (t ∷ ts) p =
-      let h = (and-eq-true_iff (ok t.1) (numbered ok ts)).0 p in
-      (and-eq-true_iff (wide t.1) (numbered wide ts)).1 (w t.1 h.0, numbered_wider wide w ts h.1)
+      let h = (and-eq-true_iff (ok (number t.1)) (numbered ok ts)).0 p in
+      (and-eq-true_iff (wide (number t.1)) (numbered wide ts)).1 (w (number t.1) h.0, numbered_wider wide w ts h.1)
 
   -- the refusal of such tests, or of the answer after them
-  pub refused_with : {A : Type 0} (refuse : ℕ → A) → ((m n : ℕ) → refuse m ≡ refuse n → m ≡ n) → (ts : List Test) (answer : A) (n : ℕ) → numbered ok ts ≡ true → (answer ≡ refuse n → ok n ≡ true)
-      → tested refuse ts answer ≡ refuse n → ok n ≡ true
-  refused_with refuse same [] answer n p q e = q e
-  refused_with refuse same ((true, m) ∷ ts) answer n p q e = refused_with refuse same ts answer n ((and-eq-true_iff (ok m) (numbered ok ts)).0 p).1 q e
-  refused_with refuse same ((false, m) ∷ ts) answer n p q e = rw (same m n e) at ((and-eq-true_iff (ok m) (numbered ok ts)).0 p).0
+  pub refused_with : {A : Type 0} (ts : List Test) (answer : Result A Refusal) (n : Refusal) → numbered ok ts ≡ true → (answer ≡ Err n → ok (number n) ≡ true)
+      → tested Err ts answer ≡ Err n → ok (number n) ≡ true
+  refused_with [] answer n p q e = q e
+  refused_with ((true, m) ∷ ts) answer n p q e = refused_with ts answer n ((and-eq-true_iff (ok (number m)) (numbered ok ts)).0 p).1 q e
+  refused_with ((false, m) ∷ ts) answer n p q e = let d : m ≡ n = cc in rw d at ((and-eq-true_iff (ok (number m)) (numbered ok ts)).0 p).0
 
 -- the numbers of a recipe and of a still
 abbrev pub own : ℕ → Bool
@@ -116,21 +117,22 @@ recipe_own b = stages_numbered (at b 0) (drop 1 b)
 
 -- ---- a still
 
-never_refused : {w h c s : ℕ} (n : ℕ) → Picture w h c s ≡ Refused n → own n ≡ true
-never_refused n f = let z : ◌≡◌ {A = ℕ} 0 1 = cc in absurd (omega arith)
+-- what is given is no refusal
+pub never_refused : {A : Type 0} (ok : ℕ → Bool) {x : A} (n : Refusal) → ◌≡◌ {A = Result A Refusal} (Ok x) (Err n) → ok (number n) ≡ true
+never_refused ok n f = let z : ◌≡◌ {A = ℕ} 0 1 = cc in absurd (omega arith)
 
-announced_own : (c : ℕ) (h : Header) (n : ℕ) → announced c h ≡ Refused n → own n ≡ true
+announced_own : (c : ℕ) (h : Header) (n : Refusal) → announced c h ≡ Err n → own (number n) ≡ true
 unfolding announced header_tests
-announced_own c h n e = refused_with own Refused (λ m k f. cc) (header_tests h) (Picture _ _ _ _) n refl (never_refused n) e
+announced_own c h n e = refused_with own (header_tests h) (Ok _) n refl (never_refused own n) e
 
-pub head_own : (bytes : List ℕ) (n : ℕ) → head_of bytes ≡ Refused n → own n ≡ true
+pub head_own : (bytes : List ℕ) (n : Refusal) → head_of bytes ≡ Err n → own (number n) ≡ true
 unfolding head_of magic_test
-head_own bytes n e = refused_with own Refused (λ m k f. cc) (magic_test bytes ∷ []) (announced _ _) n refl (announced_own _ _ n) e
+head_own bytes n e = refused_with own (magic_test bytes ∷ []) (announced _ _) n refl (announced_own _ _ n) e
 
-raster_own : (total : ℕ) (s : Still) (n : ℕ) → ((k : ℕ) → s ≡ Refused k → own k ≡ true) → with_raster total s ≡ Refused n → own n ≡ true
-raster_own total (Refused k) n h e = let d : k ≡ n = cc in rw d at (h k refl)
-raster_own total (Picture W H c start) n h e = refused_with own Refused (λ m k f. cc) (raster_tests (W * H * c) (total - start)) (Picture W H c start) n refl (never_refused n) e
+raster_own : (total : ℕ) (s : Result Picture Refusal) (n : Refusal) → ((k : Refusal) → s ≡ Err k → own (number k) ≡ true) → with_raster total s ≡ Err n → own (number n) ≡ true
+raster_own total (Err k) n h e = let d : k ≡ n = cc in rw d at (h k refl)
+raster_own total (Ok p) n h e = refused_with own (raster_tests (p.width * p.height * p.channels) (total - p.start)) (Ok p) n refl (never_refused own n) e
 
-pub still_own : (bytes : List ℕ) (n : ℕ) → still_of bytes ≡ Refused n → own n ≡ true
+pub still_own : (bytes : List ℕ) (n : Refusal) → still_of bytes ≡ Err n → own (number n) ≡ true
 unfolding still_of
 still_own bytes n e = raster_own (length bytes) (head_of bytes) n (head_own bytes) e

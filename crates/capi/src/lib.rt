@@ -20,7 +20,7 @@ use filter_answers::Limits;
 pub fn hejslopi_read_still(bytes: &[u8], res: &mut [u64; 4]) -> u32
     ensures { Tells (still_told (still_of bytes.now)) res.old res.new result }
 {
-    told::still(still_reader::read_still(bytes), res)
+    told::tell(still_reader::read_still(bytes), res)
 }
 
 // Write a still: its length.
@@ -34,7 +34,7 @@ pub fn hejslopi_write_still(
 ) -> u32
     ensures { WritesStill width height channels raster.now out.old out.new res.old res.new result }
 {
-    told::written(
+    told::tell(
         still_writer::write_still(width, height, channels, raster, out),
         res,
     )
@@ -44,14 +44,14 @@ pub fn hejslopi_write_still(
 pub fn hejslopi_read_recipe(bytes: &[u8], res: &mut [u64; 2]) -> u32
     ensures { Tells (recipe_told (recipe_of bytes.now)) res.old res.new result }
 {
-    told::recipe(recipe::read_recipe(bytes), res)
+    told::tell(recipe::read_recipe(bytes), res)
 }
 
 // What must be lent to filter a still, from its header and a recipe: how many work bytes, row values and sums, the output's length, and T.
 pub fn hejslopi_needs(recipe: &[u8], still: &[u8], res: &mut [u64; 5]) -> u32
     ensures { Tells (needs_told (needs_answer recipe.now still.now)) res.old res.new result }
 {
-    told::needs(buffer_needs::needs(recipe, still), res)
+    told::tell(buffer_needs::needs(recipe, still), res)
 }
 
 // Filter a plane, with a single stage: T.
@@ -68,7 +68,7 @@ pub fn hejslopi_filter_plane(
 ) -> u32
     ensures { FiltersPlane recipe.now width height plane.now work.old work.new rows.old rows.new sums.old sums.new out.old out.new res.old res.new result }
 {
-    told::plane(
+    told::tell(
         plane_filter::filter_plane(recipe, width, height, plane, work, rows, sums, out),
         res,
     )
@@ -88,7 +88,7 @@ pub fn hejslopi_filter_file_limited(
 ) -> u32
     ensures { FiltersFile (limits stages samples) recipe.now still.now work.old work.new rows.old rows.new sums.old sums.new out.old out.new res.old res.new result }
 {
-    told::file(
+    told::tell(
         file_filter::filter_file(
             recipe,
             still,
@@ -144,7 +144,7 @@ pub fn hejslopi_movement(
 ) -> u32
     ensures { CountsMovement limit (run_on recipe1.now still1.now work.old rows.old sums.old out1.old) (run_on recipe2.now still2.now work.old rows.old sums.old out2.old) work.old work.new rows.old rows.new sums.old sums.new out1.old out1.new out2.old out2.new res.old res.new result }
 {
-    told::movement(
+    told::tell(
         movement_filter::count_movement(
             recipe1, still1, recipe2, still2, limit, work, rows, sums, out1, out2,
         ),

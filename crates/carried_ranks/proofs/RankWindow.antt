@@ -4,11 +4,12 @@ use native.Mathlib.Nat.{le_trans}
 use native.Mathlib.Omega.{arith}
 use mathlib.Core.Path.{◌≡◌, sym, ◌∙◌}
 use mathlib.Core.List.{List}
-use lib.ListN.{length, take, drop}
+use lib.ListN.{length, take}
 use lib.IntN.{ℤ}
 use Rattle.model.specs.Plane.{Neighbourhood, plane_of}
 use Rattle.model.specs.Sound.{Bytes}
 use Rattle.stage_values.specs.Stands.{border_is}
+use Rattle.stage_values.specs.declared.Rank.{Rank}
 use Rattle.frame.specs.declared.Frame.{Frame}
 use Rattle.frame.specs.Framed.{Framed, neighbours}
 use Rattle.histograms.specs.declared.Reached.{Reached}
@@ -20,45 +21,46 @@ use Rattle.window_columns.proofs.Placed.{starts_rows}
 use Rattle.carried_ranks.proofs.Carried.{column, window-counts}
 use Rattle.histograms.proofs.Counts.{length-histogram}
 use Rattle.histograms.proofs.Below.{total_at_most, smallest-level}
-use Rattle.model.specs.Window.{area, window}
+use Rattle.model.specs.Window.{window}
 use Rattle.model.specs.Rank.{rank_result}
 use Rattle.model_laws.proofs.Chain.{around_both}
 use Rattle.model_laws.proofs.Window.{length-window, area-le}
 use Rattle.model_laws.proofs.Rank.{smallest_iff, rank-le}
 
--- the front of a list, as a part that is lent from 0 on
-pub part_front : (n : ℕ) (l m : List ℕ) → take n l ≡ m → take (n - 0) (drop 0 l) ≡ m
-part_front n l m e = let z : n - 0 ≡ n = omega arith in rw z e
+-- the rows inside, as they are placed, are in the plane
+pub rows-placed : (f : Frame) (plane : List ℕ) (y d n : ℕ) (l : List ℕ) → Framed f plane → take n l ≡ row_starts f y d → Rows f plane d (take n l)
+rows-placed f plane y d n l h e = rw e (starts_rows f y plane h d)
 
--- the rows inside are in the plane
-pub rows-lent : (f : Frame) (plane : List ℕ) (y d n : ℕ) (l : List ℕ) → Framed f plane → take n l ≡ row_starts f y d → Rows f plane d (take (n - 0) (drop 0 l))
-rows-lent f plane y d n l h e = rw (part_front n l (row_starts f y d) e) (starts_rows f y plane h d)
-
-module _ (f : Frame) (samples : List ℕ) (r s p u v : ℕ) (hr : r ≤ 15) (hs : s ≤ 15) (hp : 1 ≤ p) (hq : p ≤ area r s) (counts : List ℕ)
-    (e : counts ≡ histogram (side_by_side (column f samples r s v hr hs) (15 - r + u) (2 * r + 1))) where
+module _ (f : Frame) (samples : List ℕ) (rank : Rank) (u v : ℕ) (counts : List ℕ)
+    (e : counts ≡ histogram (side_by_side (column f samples rank.window v) (15 - rank.window.r + u) (2 * rank.window.r + 1))) where
   abbrev near : Neighbourhood
   near = neighbours f samples u v
 
-  -- they are the counts of the model's window
-  is : counts ≡ histogram (window r s near)
-  is = e ∙ window-counts f samples r s v hr hs u
+  abbrev samples_in : List ℕ
+  samples_in = window rank.window.r rank.window.s near
 
-  enough : p ≤ length (window r s near)
-  enough = rw length-window hq
+  -- they are the counts of the model's window
+  is : counts ≡ histogram samples_in
+  is = e ∙ window-counts f samples rank.window v u
+
+  enough : rank.position ≤ length samples_in
+  enough = rw length-window rank.inside.1
 
   -- every sample is a byte, so all are counted
-  all-counted : f.value ≤ 255 → Bytes samples → p ≤ total counts 256
+  all-counted : f.value ≤ 255 → Bytes samples → rank.position ≤ total counts 256
   unfolding rank_result plane_of
   all-counted hv hb =
       let bytes : (i j : ℤ) → near i j ≤ 255 = around_both (λ y x. y ≤ 255) (border_is f.border) f.value f.value f.width f.height (plane_of f.width samples) (plane_of f.width samples) hv (λ a b. hb (b * f.width + a)) u v in
-      rw (is, total_at_most (window r s near) 255 (omega arith)) ((smallest_iff p 255 (window r s near) hp enough).0 (rank-le r s p hp hq near bytes))
+      rw (is, total_at_most samples_in 255 (omega arith))
+      ((smallest_iff rank.position 255 samples_in rank.inside.0 enough).0 (rank-le rank.window.r rank.window.s rank.position rank.inside.0 rank.inside.1 near bytes))
 
-  -- what it takes to look for the level at which the sum of the counts reaches p
+  -- what it takes to look for the level at which the sum of the counts reaches the position
   pub level-there : (at : Reached) → f.value ≤ 255 → Bytes samples → Summed counts at
-      → (length counts ≡ 256) × (1 ≤ p) × (p ≤ 961) × (p ≤ total counts 256) × Summed counts at
-  level-there at hv hb t = (length-histogram counts _ e, hp, le_trans hq (area-le r s 15 15 hr hs), all-counted hv hb, t)
+      → (length counts ≡ 256) × (1 ≤ rank.position) × (rank.position ≤ 961) × (rank.position ≤ total counts 256) × Summed counts at
+  level-there at hv hb t =
+      (length-histogram counts _ e, rank.inside.0, le_trans rank.inside.1 (area-le rank.window.r rank.window.s 15 15 rank.window.near.0 rank.window.near.1), all-counted hv hb, t)
 
   -- that level is the result
-  pub rank-found : (at : Reached) → at.level < 256 → Reaches counts p at → at.level ≡ rank_result r s p near
+  pub rank-found : (at : Reached) → at.level < 256 → Reaches counts rank.position at → at.level ≡ rank_result rank.window.r rank.window.s rank.position near
   unfolding rank_result
-  rank-found at h t = sym (smallest-level p at.level (window r s near) hp enough h (rw is at (rw t.summed at t.before)) (rw is at t.there))
+  rank-found at h t = sym (smallest-level rank.position at.level samples_in rank.inside.0 enough h (rw is at (rw t.summed at t.before)) (rw is at t.there))

@@ -2,88 +2,55 @@
 // that was found.
 #![tactic(auto)]
 
-ghost use Rattle.std.specs.Prelude.{◌≡◌, ◌++◌, ◌+◌, ◌-◌, ◌*◌, ◌≤◌, ◌<◌, length, take, drop};
+ghost use Rattle.std.specs.Prelude.{◌≡◌, ◌++◌, ℕ, ◌+◌, ◌-◌, ◌*◌, ◌≤◌, ◌<◌, length, drop};
 ghost use Rattle.lists.specs.Tabulate.{tabulate};
-ghost use Rattle.model.specs.Window.{area};
 ghost use Rattle.model.specs.Rank.{rank_result};
 ghost use Rattle.frame.specs.Framed.{Framed, neighbours, worked};
 ghost use Rattle.histograms.specs.Histogram.{histogram};
 ghost use Rattle.window_columns.specs.Rows.{row_starts};
 ghost use Rattle.window_columns.specs.Columns.{column_in, side_by_side};
-ghost use Rattle.kept_planes.specs.HeldRow.{kept};
 
 use frame::Frame;
 use histograms::Reached;
-use stage_values::Window;
+use stage_values::Rank;
 
-// Row v of a rank stage, from the counts of its first window on.
-fn rank_along(
+// Row v of a rank stage on a plane, into the front of `dst`. Counts of the grey levels are made in `counts`.
+pub fn rank_row(
     frame: Frame,
-    window: Window,
-    p: usize,
+    rank: Rank,
     v: usize,
-    rows: &[usize],
+    plane: &[u8],
     counts: &mut [u32],
-    work: &mut [u8],
+    dst: &mut [u8],
 )
-    requires { Framed frame (kept frame work.old) × (v < frame.height) × (window.r ≤ 15) × (window.s ≤ 15) × (1 ≤ p) × (p ≤ area window.r window.s) × (rows.now ≡ row_starts frame (15 - window.s + v) (2 * window.s + 1)) × (counts.old ≡ histogram (side_by_side (column_in frame (kept frame work.old) rows.now (2 * window.s + 1)) (15 - window.r) (2 * window.r + 1))) }
-    ensures { work.new ≡ take (v * frame.width) work.old ++ tabulate (λ u. rank_result window.r window.s p (neighbours frame (kept frame work.old) u v)) frame.width ++ drop (v * frame.width + frame.width) work.old }
+    requires { Framed frame plane.now × (v < frame.height) × (length counts.old ≡ 256) × (frame.width ≤ length dst.old) }
+    ensures { dst.new ≡ tabulate (λ u. rank_result rank.window.r rank.window.s rank.position (neighbours frame plane.now u v)) frame.width ++ drop frame.width dst.old }
 {
-    let w = frame.width;
-    let h = frame.height;
-    let r = window.r;
-    let s = window.s;
-    let n = h * w;
-    let start = v * w;
+    let r = rank.window.r;
+    let s = rank.window.s;
     let across = 2 * r + 1;
     let down = 2 * s + 1;
-    let next = 16 - r;
+    let mut starts = [0usize; 31];
+    let inside = window_columns::place_rows(frame, 15 - s + v, down, &mut starts);
+    let rows = &starts[..inside];
+    window_columns::count_window(frame, plane, rows, across, down, 15 - r, counts);
     let mut at = Reached { level: 0, below: 0 };
-    let mut u = 0;
-    while u < w {
-        let here = histograms::reach(counts, p, at);
-        work[start + u] = here.level;
-        let behind = &work[n..n + n];
-        at = window_columns::next_window(frame, behind, rows, across, down, next + u, here, counts);
-        u += 1;
+    for u in 0..frame.width {
+        let here = histograms::reach(counts, rank.position, at);
+        dst[u] = here.level;
+        let next = 16 - r + u;
+        at = window_columns::next_window(frame, plane, rows, across, down, next, here, counts);
     }
 }
 
-// Row v of a rank stage, stored in the plane at the front of `work`. The plane behind it holds the samples before.
-fn rank_row(frame: Frame, window: Window, p: usize, v: usize, counts: &mut [u32], work: &mut [u8])
-    requires { (length counts.old ≡ 256) × Framed frame (kept frame work.old) × (v < frame.height) × (window.r ≤ 15) × (window.s ≤ 15) × (1 ≤ p) × (p ≤ area window.r window.s) }
-    ensures { work.new ≡ take (v * frame.width) work.old ++ tabulate (λ u. rank_result window.r window.s p (neighbours frame (kept frame work.old) u v)) frame.width ++ drop (v * frame.width + frame.width) work.old }
+// A rank stage on a plane, into another one.
+pub fn rank_rows(frame: Frame, rank: Rank, plane: &[u8], dst: &mut [u8])
+    requires { Framed frame plane.now × (length dst.old ≡ frame.height * frame.width) }
+    ensures { dst.new ≡ worked frame (rank_result rank.window.r rank.window.s rank.position) plane.now }
 {
     let w = frame.width;
-    let h = frame.height;
-    let r = window.r;
-    let s = window.s;
-    let n = h * w;
-    let down = 2 * s + 1;
-    let mut rows = [0usize; 31];
-    let inside = window_columns::place_rows(frame, 15 - s + v, down, &mut rows);
-    window_columns::count_window(
-        frame,
-        &work[n..n + n],
-        &rows[0..inside],
-        2 * r + 1,
-        down,
-        15 - r,
-        counts,
-    );
-    rank_along(frame, window, p, v, &rows[0..inside], counts, work);
-}
-
-// A rank stage, from the plane that is kept in `work`, into the one at its front.
-pub fn rank_rows(frame: Frame, window: Window, p: usize, work: &mut [u8])
-    requires { Framed frame (kept frame work.old) × (window.r ≤ 15) × (window.s ≤ 15) × (1 ≤ p) × (p ≤ area window.r window.s) }
-    ensures { take (frame.height * frame.width) work.new ≡ worked frame (rank_result window.r window.s p) (kept frame work.old) }
-{
-    let h = frame.height;
     let mut counts = [0u32; 256];
-    let mut v = 0;
-    while v < h {
-        rank_row(frame, window, p, v, &mut counts, work);
-        v += 1;
+    for v in 0..frame.height {
+        rank_row(frame, rank, v, plane, &mut counts, &mut dst[v * w..]);
     }
 }

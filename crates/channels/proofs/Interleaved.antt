@@ -9,8 +9,8 @@ use mathlib.Core.List.{List, ◌++◌}
 use lib.ListN.{length, get_or, set, drop, length-append, length-drop, get_or-append, get_or-eq_default}
 use lib.Seq.{get_or-set_same, get_or-set_other, get_or-append-add, get_or-drop, ext_get_or}
 use lib.Dec.{eqb, ltb}
-use borrow.Author.Tests.{ltb-true, ltb-false, eqb-true, eqb-false, lt-ltb, le-ltb, eq-eqb}
-use Rattle.lists.proofs.Tabulate.{length-tabulate, get_d_tabulate}
+use borrow.Author.Tests.{ltb-true, ltb-false, eqb-true, eqb-false, lt-ltb, le-ltb}
+use Rattle.lists.proofs.Tabulate.{fill_none, fill_more, length-tabulate, get_d_tabulate}
 use Rattle.lists.proofs.Raster.{place_fits}
 use Rattle.channels.specs.Channel.{channel, interleave, placed}
 
@@ -50,12 +50,7 @@ other_place channels c i k h = go (ltb k (i * channels)) (ltb k ((i + 1) * chann
 -- the next sample
 pub stored_more : (channels c i at : ℕ) (src old l : List ℕ) → c < channels → at ≡ i * channels + c → at < length l
     → Stored channels c src old i l → Stored channels c src old (i + 1) (set l at (get_or src i 0))
-stored_more channels c i at src old l h w f s k = go (eqb k at) refl
-  where
-    go : (t : Bool) → eqb k at ≡ t
-        → get_or (set l at (get_or src i 0)) k 0 ≡ cond (ltb k ((i + 1) * channels) && eqb (k % channels) c) (get_or src (k / channels) 0) (get_or old k 0)
-    go true e = rw (eqb-true k at e, get_or-set_same l at (get_or src i 0) 0 f, w, lt-ltb (i * channels + c) ((i + 1) * channels) (omega arith), at_mod channels i c h, at_div channels i c h, eq-eqb c c refl)
-    go false e = rw (get_or-set_other l at k (get_or src i 0) 0 (eqb-false k at e), s k, other_place channels c i k (λ q. eqb-false k at e (q ∙ sym w)))
+stored_more channels c i at src old l h w f s k = grind (arith, get_or-set_same, get_or-set_other, s k, other_place channels c i k, at_mod channels i c h, at_div channels i c h)
 
 -- ---- all channels, one after the other
 
@@ -72,11 +67,7 @@ module _ (channels n : ℕ) (planes : ℕ → List ℕ) where
   -- no channel is there yet
   pub placed-none : (old : List ℕ) (k : ℕ) → get_or old k 0 ≡ placed channels n planes old 0 k
   unfolding placed
-  placed-none old k = rw (le-ltb (k % channels) 0 (omega arith)) (go (ltb k (n * channels)))
-    where
-      go : (t : Bool) → get_or old k 0 ≡ cond (t && false) (get_or (planes (k % channels)) (k / channels) 0) (get_or old k 0)
-      go true = refl
-      go false = refl
+  placed-none old k = grind arith
 
   -- the next channel, whose samples are at the front of `plane`
   pub placed-more : (old : List ℕ) (c : ℕ) (before after plane : List ℕ)
@@ -139,8 +130,9 @@ module _ (channels n : ℕ) (raster : List ℕ) (c : ℕ) where
   -- a channel of bytes has bytes
   pub channel_bytes : ((i : ℕ) → get_or raster i 0 < 256) → (i : ℕ) → get_or (channel channels n raster c) i 0 < 256
   unfolding channel
-  channel_bytes b i = go (ltb i n) refl
-    where
-      go : (t : Bool) → ltb i n ≡ t → get_or (channel channels n raster c) i 0 < 256
-      go true e = rw (get_d_tabulate (λ i. get_or raster (i * channels + c) 0) n i 0 (ltb-true i n e)) (b (i * channels + c))
-      go false e = rw (get_or-eq_default (channel channels n raster c) 0 {n = i} (rw channel-length (ltb-false i n e))) (omega arith)
+  channel_bytes b i = grind (arith, get_d_tabulate, get_or-eq_default, length-tabulate)
+
+-- what the loops rest on
+pub ruleset taking = (fill_none, fill_more, place_fits)
+
+pub ruleset putting = (stored_none, stored_more, place_fits)

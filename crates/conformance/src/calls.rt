@@ -1,6 +1,8 @@
 // One filtering call on buffers that hold junk.
-use answers::{File, Filtered};
+
+use answers::Filtered;
 use filter_answers::Limits;
+use refusals::Refusal;
 use room::Lent;
 use std::io;
 use trial::outcome;
@@ -13,16 +15,13 @@ pub enum Asked {
 }
 
 // A plane is a picture of one channel, whose output is as long as its samples.
-fn as_file(width: usize, height: usize, len: usize, answer: Filtered) -> File {
-    match answer {
-        Filtered::Refused(n) => File::Refused(n),
-        Filtered::Tolerance(tolerance) => File::Picture {
-            width,
-            height,
-            channels: 1,
-            tolerance,
-            len,
-        },
+fn as_file(width: usize, height: usize, len: usize, tolerance: u64) -> Filtered {
+    Filtered {
+        width,
+        height,
+        channels: 1,
+        tolerance,
+        len,
     }
 }
 
@@ -34,17 +33,15 @@ fn ask(
     rows: &mut [i32],
     sums: &mut [u32],
     out: &mut [u8],
-) -> File {
+) -> Result<Filtered, Refusal> {
     match asked {
         Asked::File(limits) => {
             file_filter::filter_file(recipe, bytes, limits, work, rows, sums, out)
         }
-        Asked::Plane(w, h) => as_file(
-            w,
-            h,
-            bytes.len(),
-            plane_filter::filter_plane(recipe, w, h, bytes, work, rows, sums, out),
-        ),
+        Asked::Plane(w, h) => {
+            let tolerance = plane_filter::filter_plane(recipe, w, h, bytes, work, rows, sums, out)?;
+            Ok(as_file(w, h, bytes.len(), tolerance))
+        }
     }
 }
 
@@ -78,22 +75,12 @@ pub fn call(
     let mut rows = [0i32; 262144];
     let mut sums = [0u32; 16384];
     let mut out = [0u8; 65536];
-    let a = lent.works;
-    let b = lent.rows;
-    let c = lent.sums;
-    let d = lent.out;
-    if a <= 32768 && b <= 262144 && c <= 16384 && d <= 65536 {
-        return call_on(
-            rt,
-            asked,
-            recipe,
-            bytes,
-            wanted,
-            &mut work[..a],
-            &mut rows[..b],
-            &mut sums[..c],
-            &mut out[..d],
-        );
+    if let Some(work) = work.get_mut(..lent.works)
+        && let Some(rows) = rows.get_mut(..lent.rows)
+        && let Some(sums) = sums.get_mut(..lent.sums)
+        && let Some(out) = out.get_mut(..lent.out)
+    {
+        return call_on(rt, asked, recipe, bytes, wanted, work, rows, sums, out);
     }
     Ok(())
 }

@@ -17,20 +17,15 @@ use answers::Recipe;
 use calls::Asked;
 use filter_answers::Limits;
 use room::Lent;
-use std::env;
 use std::rt::Files;
+use std::{env, io};
 use trial::files;
 
-fn show_recipe(rt: &impl Print, bytes: &[u8]) -> std::io::Result<()> {
+fn show_recipe(rt: &impl Print, bytes: &[u8]) -> io::Result<()> {
     match recipe::read_recipe(bytes) {
-        Recipe::Refused(n) => printing::refusal(rt, n)?,
-        Recipe::Stages { count, tolerance } => {
-            printing::text(rt, b"ok")?;
-            printing::number(rt, count as u64)?;
-            printing::number(rt, tolerance)?;
-        }
+        Err(refusal) => println!(rt; "{refusal}"),
+        Ok(Recipe { count, tolerance }) => println!(rt; "ok {count} {tolerance}"),
     }
-    printing::end(rt)
 }
 
 // The limits of a call on a file, by the first letter of its kind: the panel's for `limited`, the archive's for any other.
@@ -38,16 +33,10 @@ fn limits_of(letter: u8) -> Limits
     ensures { result ≡ cond (eqb letter 108) panel archive }
 {
     if letter == b'l' {
-        return filter_answers::PANEL;
+        filter_answers::PANEL
+    } else {
+        filter_answers::ARCHIVE
     }
-    filter_answers::ARCHIVE
-}
-
-fn asked(text: &[u8], kind: u8) -> Asked {
-    if kind == b'p' {
-        return Asked::Plane(words::number(text, 6), words::number(text, 7));
-    }
-    Asked::File(limits_of(kind))
 }
 
 fn lent(text: &[u8]) -> Lent {
@@ -59,90 +48,70 @@ fn lent(text: &[u8]) -> Lent {
     }
 }
 
-fn show_bytes(rt: &(impl Files + Print), kind: u8, path: &[u8]) -> std::io::Result<()> {
-    let mut bytes = io::large_buffer();
-    let n = files::load(rt, path, b"", 0, &mut bytes);
-    if kind == b's' {
-        rereading::show(rt, &bytes[..n])
-    } else {
-        show_recipe(rt, &bytes[..n])
-    }
+fn read_still(rt: &(impl Files + Print), path: &[u8]) -> io::Result<()> {
+    let mut bytes = [0u8; 65536];
+    rereading::show(rt, files::load(rt, path, b"", 0, &mut bytes))
+}
+
+fn read_recipe(rt: &(impl Files + Print), path: &[u8]) -> io::Result<()> {
+    let mut bytes = [0u8; 65536];
+    show_recipe(rt, files::load(rt, path, b"", 0, &mut bytes))
 }
 
 // A recipe with windows of one sample gives a still's samples back: the output is the still as it is written.
-fn give_back(rt: &(impl Files + Print), text: &[u8], path: &[u8]) -> std::io::Result<()> {
-    let mut recipe = io::buffer();
-    let mut still = io::large_buffer();
-    let mut out = io::large_buffer();
-    let a = files::load(rt, &text[words::after(text, 6)..], b"", 0, &mut recipe);
-    let b = files::load(rt, path, b"", 0, &mut still);
-    let c = rereading::write_again(&still[..b], &mut out);
-    calls::call(
-        rt,
-        lent(text),
-        Asked::File(filter_answers::ARCHIVE),
-        &recipe[..a],
-        &still[..b],
-        &out[..c],
-    )
+fn give_back(rt: &(impl Files + Print), text: &[u8], path: &[u8]) -> io::Result<()> {
+    let mut recipe = [0u8; 4096];
+    let mut still = [0u8; 65536];
+    let mut out = [0u8; 65536];
+    let recipe = files::load(rt, words::after(text, 6), b"", 0, &mut recipe);
+    let still = files::load(rt, path, b"", 0, &mut still);
+    let wanted = rereading::write_again(still, &mut out);
+    let asked = Asked::File(filter_answers::ARCHIVE);
+    calls::call(rt, lent(text), asked, recipe, still, wanted)
 }
 
 // A folder's script, on a background.
-fn keep(rt: &(impl Files + Print), folder: &[u8]) -> std::io::Result<()> {
-    let mut script = io::large_buffer();
-    let n = files::load(rt, folder, b"script", 0, &mut script);
-    printing::text(rt, b"steps:")?;
-    printing::end(rt)?;
-    scripts::run(rt, folder, &script[..n])
+fn keep(rt: &(impl Files + Print), folder: &[u8]) -> io::Result<()> {
+    let mut script = [0u8; 65536];
+    let script = files::load(rt, folder, b"script", 0, &mut script);
+    rt.println("steps:")?;
+    scripts::run(rt, folder, script)
 }
 
 // A folder's still, or its plane.
-fn filter(
-    rt: &(impl Files + Print),
-    text: &[u8],
-    folder: &[u8],
-    asked: Asked,
-) -> std::io::Result<()> {
-    let mut recipe = io::buffer();
-    let mut still = io::large_buffer();
-    let mut out = io::large_buffer();
-    let a = files::recipe(rt, folder, &mut recipe);
-    let b = files::still(rt, folder, words::number(text, 8), &mut still);
-    let c = files::output(rt, folder, words::number(text, 9), &mut out);
-    calls::call(rt, lent(text), asked, &recipe[..a], &still[..b], &out[..c])
+fn filter(rt: &(impl Files + Print), text: &[u8], folder: &[u8], asked: Asked) -> io::Result<()> {
+    let mut recipe = [0u8; 4096];
+    let mut still = [0u8; 65536];
+    let mut out = [0u8; 65536];
+    let recipe = files::recipe(rt, folder, &mut recipe);
+    let still = files::still(rt, folder, words::number(text, 8), &mut still);
+    let wanted = files::output(rt, folder, words::number(text, 9), &mut out);
+    calls::call(rt, lent(text), asked, recipe, still, wanted)
 }
 
 // A path, the kind of the call by its first letter, and what the call needs.
-fn make(rt: &(impl Files + Print), text: &[u8]) -> std::io::Result<()> {
-    let end = words::first(text);
-    let path = &text[..end];
-    let kind = words::letter(text, end);
-    if kind == b's' || kind == b'r' {
-        show_bytes(rt, kind, path)
-    } else if kind == b'b' {
-        give_back(rt, text, path)
-    } else if kind == b'k' {
-        keep(rt, path)
-    } else if kind == b'm' {
-        movement_cases::run(rt, text, path)
-    } else if kind == b'n' {
-        needs_cases::run(rt, path)
-    } else if kind == b'v' {
-        verdict_cases::run(rt, text, path)
-    } else {
-        filter(rt, text, path, asked(text, kind))
+fn make(rt: &(impl Files + Print), text: &[u8]) -> io::Result<()> {
+    let path = words::word(text, 0);
+    match words::letter(text, 1) {
+        b's' => read_still(rt, path),
+        b'r' => read_recipe(rt, path),
+        b'b' => give_back(rt, text, path),
+        b'k' => keep(rt, path),
+        b'm' => movement_cases::run(rt, text, path),
+        b'n' => needs_cases::run(rt, path),
+        b'v' => verdict_cases::run(rt, text, path),
+        b'p' => {
+            let asked = Asked::Plane(words::number(text, 6), words::number(text, 7));
+            filter(rt, text, path, asked)
+        }
+        kind => filter(rt, text, path, Asked::File(limits_of(kind))),
     }
 }
 
-fn show_argument(rt: &(impl Files + Print), text: &[u8]) -> std::io::Result<()> {
-    printing::text(rt, text)?;
-    printing::text(rt, b" ")?;
-    make(rt, text)
-}
-
-fn main(rt: HostRuntime) -> std::io::Result<()> {
+fn main(rt: HostRuntime) -> io::Result<()> {
     for argument in env::args(&rt)?.skip(1) {
-        show_argument(&rt, argument.as_bytes())?;
+        print!(rt; "{argument} ")?;
+        make(&rt, argument.as_bytes())?;
     }
     Ok(())
 }

@@ -1,42 +1,32 @@
 // The program's two input files, tested in document 01's order ('Who causes which refusal').
 #![tactic(auto)]
 
-ghost use Rattle.std.specs.Prelude.{◌≡◌};
-ghost use Rattle.disk_tests.specs.Disk.{found};
+ghost use Rattle.std.specs.Prelude.{◌≡◌, Ok, Err};
+ghost use Rattle.refusals.specs.Refusal.{tested};
+ghost use Rattle.disk_tests.specs.Disk.{found, file_tests, size};
+
+use refusals::Refusal;
 
 pub const STILL_LIMIT: usize = 65536;
 
 pub const RECIPE_LIMIT: usize = 4096;
 
-// What came of reading a file: how many bytes were read, to its end or until the buffer was full.
-#[derive(Clone, Copy)]
-pub enum Loaded {
-    Unread,
-    Bytes(usize),
+// The two tests of one file, of which so many bytes were read, to its end or until the buffer was full.
+fn length_of(file: Option<usize>, limit: usize) -> Result<usize, Refusal>
+    ensures { result ≡ tested Err (file_tests file limit) (Ok (size file)) }
+{
+    let n = file.ok_or(Refusal::FileUnread)?;
+    if n > limit {
+        return Err(Refusal::FileLong);
+    }
+    Ok(n)
 }
 
-// What is found of both: a refusal, or their lengths.
-#[derive(Clone, Copy)]
-pub enum Found {
-    Refused(u8),
-    Lengths(usize, usize),
-}
-
-// The four tests of the two files in their order.
-pub fn tested(still: Loaded, recipe: Loaded) -> Found
+// The lengths of both files, or what the four tests find in their order. A file that could not be read has no length.
+pub fn tested(still: Option<usize>, recipe: Option<usize>) -> Result<(usize, usize), Refusal>
     ensures { result ≡ found still recipe }
 {
-    let Loaded::Bytes(a) = still else {
-        return Found::Refused(refusals::FILE_UNREAD);
-    };
-    if a > STILL_LIMIT {
-        return Found::Refused(refusals::FILE_LONG);
-    }
-    let Loaded::Bytes(b) = recipe else {
-        return Found::Refused(refusals::FILE_UNREAD);
-    };
-    if b > RECIPE_LIMIT {
-        return Found::Refused(refusals::FILE_LONG);
-    }
-    Found::Lengths(a, b)
+    let a = length_of(still, STILL_LIMIT)?;
+    let b = length_of(recipe, RECIPE_LIMIT)?;
+    Ok((a, b))
 }

@@ -21,11 +21,9 @@ fn first_columns(frame: Frame, s: usize, plane: &[u8], row: &mut [u8], sums: &mu
 {
     let n = frame.width + 30;
     row_sums::start_at(sums, n, 0);
-    let mut j = 0;
-    while j < 2 * s + 1 {
+    for j in 0..2 * s + 1 {
         frame::padded_row(frame, plane, 15 - s + j, row);
         row_sums::add_tap(sums, n, row, 1);
-        j += 1;
     }
 }
 
@@ -47,10 +45,8 @@ fn first_sum(columns: &[i32], n: usize) -> i64
     ensures { result ≡ run_sum columns.now n 0 }
 {
     let mut sum = 0;
-    let mut i = 0;
-    while i < n {
-        sum = sum + columns[i] as i64;
-        i += 1;
+    for x in &columns[..n] {
+        sum += i64::from(*x);
     }
     sum
 }
@@ -60,7 +56,7 @@ fn slid(sum: i64, leaves: i32, enters: i32) -> i64
     requires { nat_abs sum ≤ 2 ^ 40 }
     ensures { result ≡ sum -ℤ leaves +ℤ enters }
 {
-    sum - leaves as i64 + enters as i64
+    sum - i64::from(leaves) + i64::from(enters)
 }
 
 // The sums of `across` columns from each of the first w on.
@@ -69,11 +65,9 @@ fn window_sums(columns: &[i32], across: usize, w: usize, wide: &mut [i64])
     ensures { wide.new ≡ tabulate (run_sum columns.now across) w ++ drop w wide.old }
 {
     let mut sum = first_sum(columns, across);
-    let mut u = 0;
-    while u < w {
+    for u in 0..w {
         wide[u] = sum;
         sum = slid(sum, columns[u], columns[u + across]);
-        u += 1;
     }
 }
 
@@ -86,7 +80,7 @@ pub fn box_near(
     channel: Channel,
     c: u64,
 ) -> bool
-    requires { Framed frame plane.now × (window.r ≤ 15) × (window.s ≤ 15) × Inside frame.width frame.height channel received.now × (c ≤ 255) }
+    requires { Framed frame plane.now × Inside frame.width frame.height channel received.now × (c ≤ 255) }
     ensures { result ≡ channel_near c (area window.r window.s) frame.width frame.height channel received.now (λ u v. numerator (box window.r window.s) (neighbours frame plane.now u v)) }
 {
     let w = frame.width;
@@ -99,14 +93,12 @@ pub fn box_near(
     let mut sums = [0i32; 8224];
     let mut wide = [0i64; 8192];
     first_columns(frame, s, plane, &mut row, &mut sums);
-    let mut v = 0;
-    while v < h {
+    for v in 0..h {
         window_sums(&sums[15 - r..], across, w, &mut wide);
         if !near_rows::row_near(received, channel, w, v, &wide, n, c) {
             return false;
         }
         next_columns(frame, s, plane, v, &mut row, &mut sums);
-        v += 1;
     }
     true
 }

@@ -3,8 +3,7 @@
 
 ghost use Rattle.std.specs.Prelude.{◌≡◌, ◌++◌, ◌+◌, ◌≤◌, ◌<◌, length, get_or, drop, pos};
 ghost use Rattle.lists.specs.Tabulate.{tabulate};
-ghost use Rattle.model.specs.Window.{area};
-ghost use Rattle.model.specs.Stage.{rank};
+ghost use Rattle.model.specs.Stage as Model;
 ghost use Rattle.model.specs.Exact.{numerator};
 ghost use Rattle.frame.specs.Framed.{Framed, neighbours};
 ghost use Rattle.near_rows.specs.Near.{near_clamped};
@@ -13,17 +12,15 @@ ghost use Rattle.near_rows.specs.Places.{sample_at, channel_near, Inside};
 
 use frame::Frame;
 use near_rows::Channel;
-use stage_values::Window;
+use stage_values::Rank;
 
 // The first w levels as numerators.
 fn widen(levels: &[u8], w: usize, wide: &mut [i64])
     requires { (w ≤ length levels.now) × (w ≤ length wide.old) }
     ensures { wide.new ≡ tabulate (λ u. pos (get_or levels.now u 0)) w ++ drop w wide.old }
 {
-    let mut u = 0;
-    while u < w {
-        wide[u] = levels[u] as i64;
-        u += 1;
+    for u in 0..w {
+        wide[u] = i64::from(levels[u]);
     }
 }
 
@@ -44,93 +41,39 @@ fn levels_near(
     near_rows::row_near(received, channel, w, v, wide, 1, c)
 }
 
-// Ranks of any window: the counts of the grey levels are carried along each row.
-fn carried_near(
+// Whether each sample of a channel of a received raster lies within c levels of the ranks of a plane, row by row, by the method that is faster for its window: small
+// ones are searched by halving, and for others the counts of the grey levels are carried along each row.
+pub fn rank_near(
     frame: Frame,
-    window: Window,
-    p: usize,
+    rank: Rank,
     plane: &[u8],
     received: &[u8],
     channel: Channel,
     c: u64,
 ) -> bool
-    requires { Framed frame plane.now × (window.r ≤ 15) × (window.s ≤ 15) × (1 ≤ p) × (p ≤ area window.r window.s) × Inside frame.width frame.height channel received.now × (c ≤ 255) }
-    ensures { result ≡ channel_near c 1 frame.width frame.height channel received.now (λ u v. numerator (rank window.r window.s p) (neighbours frame plane.now u v)) }
+    requires { Framed frame plane.now × Inside frame.width frame.height channel received.now × (c ≤ 255) }
+    ensures { result ≡ channel_near c 1 frame.width frame.height channel received.now (λ u v. numerator (Model.rank rank.window.r rank.window.s rank.position) (neighbours frame plane.now u v)) }
 {
     let w = frame.width;
-    let h = frame.height;
+    let small = rank.window.r <= 3 && rank.window.s <= 3;
     let mut counts = [0u32; 256];
-    let mut levels = [0u8; 8192];
-    let mut wide = [0i64; 8192];
-    let mut v = 0;
-    while v < h {
-        carried_rank_rows::rank_row(frame, window, p, v, plane, &mut counts, &mut levels);
-        if !levels_near(received, channel, w, v, &levels, &mut wide, c) {
-            return false;
-        }
-        v += 1;
-    }
-    true
-}
-
-// Ranks of a small window: they are searched by halving, all columns of a row side by side.
-fn small_near(
-    frame: Frame,
-    window: Window,
-    p: usize,
-    plane: &[u8],
-    received: &[u8],
-    channel: Channel,
-    c: u64,
-) -> bool
-    requires { Framed frame plane.now × (window.r ≤ 3) × (window.s ≤ 3) × (1 ≤ p) × (p ≤ area window.r window.s) × Inside frame.width frame.height channel received.now × (c ≤ 255) }
-    ensures { result ≡ channel_near c 1 frame.width frame.height channel received.now (λ u v. numerator (rank window.r window.s p) (neighbours frame plane.now u v)) }
-{
-    let w = frame.width;
-    let h = frame.height;
     // seven rows of 8,192 samples, with 15 more on each side
     let mut rows = [0u8; 57554];
     let mut seen = [0u8; 8192];
     let mut levels = [0u8; 8192];
     let mut wide = [0i64; 8192];
-    small_rank_rows::first_rows(frame, window.s, plane, &mut rows);
-    let mut v = 0;
-    while v < h {
-        small_rank_rows::rank_row(
-            frame,
-            window,
-            p as u8,
-            v,
-            plane,
-            &mut rows,
-            &mut seen,
-            &mut levels,
-        );
+    if small {
+        small_ranks::first_rows(frame, rank.window.s, plane, &mut rows);
+    }
+    for v in 0..frame.height {
+        if small {
+            small_ranks::rank_row(frame, rank, v, plane, &mut rows, &mut seen, &mut levels);
+        } else {
+            carried_ranks::rank_row(frame, rank, v, plane, &mut counts, &mut levels);
+        }
         if !levels_near(received, channel, w, v, &levels, &mut wide, c) {
             return false;
         }
-        v += 1;
     }
     true
-}
-
-// Whether each sample of a channel of a received raster lies within c levels of the ranks of a plane, by the method that is faster for its window.
-pub fn rank_near(
-    frame: Frame,
-    window: Window,
-    p: usize,
-    plane: &[u8],
-    received: &[u8],
-    channel: Channel,
-    c: u64,
-) -> bool
-    requires { Framed frame plane.now × (window.r ≤ 15) × (window.s ≤ 15) × (1 ≤ p) × (p ≤ area window.r window.s) × Inside frame.width frame.height channel received.now × (c ≤ 255) }
-    ensures { result ≡ channel_near c 1 frame.width frame.height channel received.now (λ u v. numerator (rank window.r window.s p) (neighbours frame plane.now u v)) }
-{
-    let r = window.r;
-    let s = window.s;
-    if r <= 3 && s <= 3 {
-        return small_near(frame, window, p, plane, received, channel, c);
-    }
-    carried_near(frame, window, p, plane, received, channel, c)
 }

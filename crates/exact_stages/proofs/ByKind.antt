@@ -7,12 +7,13 @@ use mathlib.Core.List.{List}
 use lib.ListN.{length, drop}
 use lib.Seq.{drop-drop}
 use Rattle.refusals.specs.Refusal.{verdict}
-use Rattle.refusals.specs.declared.Verdict.TheVariants.{Passed}
+use Rattle.std.specs.Prelude.{Ok}
 use Rattle.model.specs.Kernel.{kernel}
 use Rattle.model.specs.Window.{area}
 use Rattle.model.specs.Stage.{weighted, box, rank, outline}
 use Rattle.model.specs.Exact.{denominator, numerator}
 use Rattle.stage_values.specs.declared.Window.{Window}
+use Rattle.stage_values.specs.declared.Rank.{Rank}
 use Rattle.stage_values.specs.declared.Work.TheVariants.{Weighted, Boxed, Ranked, Outlined}
 use Rattle.stage_values.specs.declared.Stage as Code
 use Rattle.stage_values.specs.Stands.{Does, Stands}
@@ -23,7 +24,7 @@ use Rattle.recipe_kernels.specs.Kernels.{kernel_on, weighted_tests}
 use Rattle.recipe_stages.specs.StageBytes.{stage_tests, stage_of}
 use Rattle.near_rows.specs.declared.Channel.{Channel}
 use Rattle.near_rows.specs.Places.{channel_near}
-use Rattle.whole_taps.specs.declared.Taps.{Taps}
+use Rattle.whole_taps.specs.declared.held.Taps.{Taps}
 use Rattle.whole_taps.specs.Whole.{kernel_is}
 use Rattle.verdict_answers.proofs.OneStage.{stage_tests_lem, stage_long}
 use Rattle.exact_stages.specs.Fits.{Fits, Sides}
@@ -54,7 +55,7 @@ module _ {recipe : List ℕ} (f : Fits recipe) where
   pub long : 4 ≤ length recipe
   long = stage_long recipe f.accepted one
 
-  pub passed : verdict (stage_tests (drop 1 recipe)) ≡ Passed
+  pub passed : verdict (stage_tests (drop 1 recipe)) ≡ Ok tt
   passed = stage_tests_lem recipe f.accepted one
 
   -- the bytes behind them
@@ -77,7 +78,7 @@ module _ {recipe : List ℕ} (f : Fits recipe) where
       ratios : at (drop 1 recipe) 0 ≡ 1
       ratios = weights_ratios (drop 1 recipe) (kinds recipe f.fit) does.2
 
-      pub tap_tests_lem : verdict (weighted_tests false (drop 4 recipe)) ≡ Passed
+      pub tap_tests_lem : verdict (weighted_tests false (drop 4 recipe)) ≡ Ok tt
       tap_tests_lem = rw behind at (ratio_tests (drop 1 recipe) ratios passed)
 
       pub ratios_same : (c : ℕ) (ch : Channel) (received samples : List ℕ) (across down : Taps) → kernel_is across ≡ kernel_on false 0 (drop 4 recipe) → kernel_is down ≡ kernel_on false 1 (drop 4 recipe)
@@ -90,24 +91,19 @@ module _ {recipe : List ℕ} (f : Fits recipe) where
     -- ---- a box
 
     module _ {x : Window} (e : s.work ≡ Boxed x) where
-      pub box_does : Does (Boxed x) s (stage_of (drop 1 recipe)).work
-      box_does = rw e at stands.work
-
       pub box-same : (c : ℕ) (ch : Channel) (received samples : List ℕ)
           → channel_near c (area x.r x.s) w h ch received (λ u v. numerator (box x.r x.s) (neighbours frame_of samples u v))
           ≡ channel_near c (denominator 1 (stage_of (drop 1 recipe)).work) w h ch received (exact_numerator w h (stage_of (drop 1 recipe)) samples)
-      box-same c ch received samples = stage-near c w h (area x.r x.s) ch received samples s (stage_of (drop 1 recipe)) (box x.r x.s) stands box_does.0 (box-size x.r x.s)
+      box-same c ch received samples = stage-near c w h (area x.r x.s) ch received samples s (stage_of (drop 1 recipe)) (box x.r x.s) stands (rw e at stands.work) (box-size x.r x.s)
 
     -- ---- a rank
 
-    module _ {x : Window} {p : ℕ} (e : s.work ≡ Ranked x p) where
-      pub rank_does : Does (Ranked x p) s (stage_of (drop 1 recipe)).work
-      rank_does = rw e at stands.work
-
+    module _ {x : Rank} (e : s.work ≡ Ranked x) where
       pub rank_same : (c : ℕ) (ch : Channel) (received samples : List ℕ)
-          → channel_near c 1 w h ch received (λ u v. numerator (rank x.r x.s p) (neighbours frame_of samples u v))
+          → channel_near c 1 w h ch received (λ u v. numerator (rank x.window.r x.window.s x.position) (neighbours frame_of samples u v))
           ≡ channel_near c (denominator 1 (stage_of (drop 1 recipe)).work) w h ch received (exact_numerator w h (stage_of (drop 1 recipe)) samples)
-      rank_same c ch received samples = stage-near c w h 1 ch received samples s (stage_of (drop 1 recipe)) (rank x.r x.s p) stands rank_does.0 (rank-size x.r x.s p)
+      rank_same c ch received samples =
+          stage-near c w h 1 ch received samples s (stage_of (drop 1 recipe)) (rank x.window.r x.window.s x.position) stands (rw e at stands.work) (rank-size x.window.r x.window.s x.position)
 
     -- ---- no outline is there
 

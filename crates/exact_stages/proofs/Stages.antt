@@ -17,7 +17,7 @@ use Rattle.model.specs.Kernel.{Kernel}
 use Rattle.model.specs.Stage.{Work, weighted, box, rank, outline, Stage, stage}
 use Rattle.model.specs.Exact.{denominator, numerator, exact_plane, exact_from, denominator_from, exact, exact_denominator}
 use Rattle.refusals.specs.Refusal.{verdict}
-use Rattle.refusals.specs.declared.Verdict.TheVariants.{Passed}
+use Rattle.std.specs.Prelude.{Ok}
 use Rattle.stage_values.specs.declared.Stage as Code
 use Rattle.stage_values.specs.Stands.{Stands}
 use Rattle.frame.specs.Framed.{neighbours}
@@ -97,7 +97,7 @@ module _ (part : List ℕ) where
   ratio_work e = unfolding_work 1 e
 
   -- and their tests
-  pub ratio_tests : at part 0 ≡ 1 → verdict (stage_tests part) ≡ Passed → verdict (weighted_tests false (drop 3 part)) ≡ Passed
+  pub ratio_tests : at part 0 ≡ 1 → verdict (stage_tests part) ≡ Ok tt → verdict (weighted_tests false (drop 3 part)) ≡ Ok tt
   unfolding work_tests
   ratio_tests e t = rw e at (stage-parts part t).1
 

@@ -1,13 +1,12 @@
 -- What the tests of a verdict have shown of its recipe and of its sides.
-use Rattle.std.specs.Prelude.{ℕ, ◌≤◌, ◌≡◌, true, List}
+use Rattle.std.specs.Prelude.{ℕ, ◌≤◌, ◌≡◌, true, List, Ok}
 use Rattle.refusals.specs.Refusal.{verdict}
-use Rattle.refusals.specs.declared.Verdict.TheVariants.{Passed}
 use Rattle.recipe.specs.Recipe.{recipe_tests}
 use Rattle.verdict_answers.specs.Plan.{fit_stage}
 
 -- an accepted recipe of one fitting stage
 pub record Fits (recipe : List ℕ) : Type 0 where
-  pub accepted : verdict (recipe_tests recipe) ≡ Passed
+  pub accepted : verdict (recipe_tests recipe) ≡ Ok tt
   pub fit : fit_stage recipe ≡ true
 
 -- sides of 1 to 8,192

@@ -9,7 +9,7 @@ ghost use Rattle.model.specs.Exact.{numerator};
 ghost use Rattle.frame.specs.Framed.{Framed, neighbours};
 ghost use Rattle.frame.specs.Padded.{padded};
 ghost use Rattle.near_rows.specs.Places.{channel_near, Inside};
-ghost use Rattle.whole_taps.specs.Whole.{kernel_is, Whole};
+ghost use Rattle.whole_taps.specs.Whole.{kernel_is};
 ghost use Rattle.exact_weights.specs.Sums.{tap_sum};
 
 use frame::Frame;
@@ -18,36 +18,26 @@ use whole_taps::Taps;
 
 // The sums down of row v, at every place of a padded row.
 fn sums_down(frame: Frame, plane: &[u8], down: Taps, v: usize, row: &mut [u8], sums: &mut [i32])
-    requires { Framed frame plane.now × Whole down × (v ≤ 8192) × (frame.width + 30 ≤ length row.old) × (frame.width + 30 ≤ length sums.old) }
+    requires { Framed frame plane.now × (v ≤ 8192) × (frame.width + 30 ≤ length row.old) × (frame.width + 30 ≤ length sums.old) }
     ensures { sums.new ≡ tabulate (λ x. tap_sum down (λ o. pos (padded frame plane.now x (v + o)))) (frame.width + 30) ++ drop (frame.width + 30) sums.old }
 {
     let n = frame.width + 30;
-    let len = down.len;
-    let offsets = down.offsets;
-    let weights = down.weights;
     row_sums::start_at(sums, n, 0);
-    let mut k = 0;
-    while k < len {
-        frame::padded_row(frame, plane, v + offsets[k] as usize, row);
-        row_sums::add_tap(sums, n, row, weights[k]);
-        k += 1;
+    for k in 0..down.len {
+        frame::padded_row(frame, plane, v + down.offsets[k] as usize, row);
+        row_sums::add_tap(sums, n, row, down.weights[k]);
     }
 }
 
 // The sums across of a row of sums down.
 fn sums_across(sums: &[i32], across: Taps, w: usize, wide: &mut [i64])
-    requires { Whole across × (w ≤ 8192) × (w + 30 ≤ length sums.now) × (w ≤ length wide.old) × ((x : ℕ) → nat_abs (get_or sums.now x (pos 0)) ≤ 2 ^ 27) }
+    requires { (w ≤ 8192) × (w + 30 ≤ length sums.now) × (w ≤ length wide.old) × ((x : ℕ) → nat_abs (get_or sums.now x (pos 0)) ≤ 2 ^ 27) }
     ensures { wide.new ≡ tabulate (λ u. tap_sum across (λ o. get_or sums.now (u + o) (pos 0))) w ++ drop w wide.old }
 {
-    let len = across.len;
-    let offsets = across.offsets;
-    let weights = across.weights;
-    wide_sums::start(wide, w, 0);
-    let mut k = 0;
-    while k < len {
-        let at = offsets[k] as usize;
-        wide_sums::add_tap(wide, w, &sums[at..], weights[k]);
-        k += 1;
+    row_sums::start_at(wide, w, 0);
+    for k in 0..across.len {
+        let at = across.offsets[k] as usize;
+        row_sums::add_tap(wide, w, &sums[at..], across.weights[k]);
     }
 }
 
@@ -62,7 +52,7 @@ fn row_numerators(
     sums: &mut [i32],
     wide: &mut [i64],
 )
-    requires { Framed frame plane.now × Whole across × Whole down × (v ≤ 8192) × (frame.width + 30 ≤ length row.old) × (frame.width + 30 ≤ length sums.old) × (frame.width ≤ length wide.old) }
+    requires { Framed frame plane.now × (v ≤ 8192) × (frame.width + 30 ≤ length row.old) × (frame.width + 30 ≤ length sums.old) × (frame.width ≤ length wide.old) }
     ensures { (u : ℕ) → u < frame.width → get_or wide.new u (pos 0) ≡ numerator (weighted (kernel_is across) (kernel_is down)) (neighbours frame plane.now u v) }
 {
     let w = frame.width;
@@ -73,7 +63,6 @@ fn row_numerators(
 
 // N: the divisors of both axes together.
 fn denominator(across: Taps, down: Taps) -> u64
-    requires { Whole across × Whole down }
     ensures { (result ≡ across.divisor * down.divisor) × (result ≤ 2 ^ 32) }
 {
     across.divisor * down.divisor
@@ -89,7 +78,7 @@ pub fn ratios_near(
     channel: Channel,
     c: u64,
 ) -> bool
-    requires { Framed frame plane.now × Whole across × Whole down × Inside frame.width frame.height channel received.now × (c ≤ 255) }
+    requires { Framed frame plane.now × Inside frame.width frame.height channel received.now × (c ≤ 255) }
     ensures { result ≡ channel_near c (across.divisor * down.divisor) frame.width frame.height channel received.now (λ u v. numerator (weighted (kernel_is across) (kernel_is down)) (neighbours frame plane.now u v)) }
 {
     let w = frame.width;
@@ -98,15 +87,13 @@ pub fn ratios_near(
     let mut row = [0u8; 8224];
     let mut sums = [0i32; 8224];
     let mut wide = [0i64; 8192];
-    let mut v = 0;
-    while v < h {
+    for v in 0..h {
         row_numerators(
             frame, across, down, plane, v, &mut row, &mut sums, &mut wide,
         );
         if !near_rows::row_near(received, channel, w, v, &wide, n, c) {
             return false;
         }
-        v += 1;
     }
     true
 }

@@ -16,8 +16,9 @@ use Rattle.model.specs.Sound.{Sound, Bytes}
 use Rattle.model_laws.proofs.Chain.{within_tolerance}
 use Rattle.channels.specs.Channel.{channel, interleave}
 use Rattle.channels.proofs.Interleaved.{interleave-at, length-interleave, channel_bytes}
-use Rattle.answers.specs.declared.File.{File}
-use Rattle.answers.specs.declared.File.TheVariants.{Refused, Picture}
+use Rattle.std.specs.Prelude.{Result, Ok, Err}
+use Rattle.refusals.specs.declared.Refusal.{Refusal}
+use Rattle.answers.specs.declared.Filtered.{Filtered}
 use Rattle.header_writer.specs.Heading.{header_bytes}
 use Rattle.recipe_bytes.proofs.ByteLaws.{bytes_drop}
 use Rattle.recipe.specs.Recipe.{recipe_stages}
@@ -44,26 +45,26 @@ module _ (W H : ℕ) (ts : List Stage) (sound : Sound ts) {T : ℕ} (e : toleran
 
 -- ---- what the call ensures, by its answer
 
-module _ (m : Limits) (recipe still work : List ℕ) (rows : List ℤ) (sums out : List ℕ) (answer : File) (e : answer ≡ file_answer m recipe still (lent (length work) (length rows) (length sums) (length out))) where
+module _ (m : Limits) (recipe still work : List ℕ) (rows : List ℤ) (sums out : List ℕ) (answer : Result Filtered Refusal) (e : answer ≡ file_answer m recipe still (lent (length work) (length rows) (length sums) (length out))) where
   -- a refusal leaves all as it was
-  pub file_refuses : {n : ℕ} → answer ≡ Refused n → FiltersFile m recipe still work work rows rows sums sums out out answer
+  pub file_refuses : {n : Refusal} → answer ≡ Err n → FiltersFile m recipe still work work rows rows sums sums out out answer
   file_refuses f = record { answered = e; output = rw f; within = rw f tt; work-kept = rw f refl; rows-kept = rw f refl; sums_kept = rw f refl }
 
-  module _ {W H c T n : ℕ} (f : answer ≡ Picture W H c T n) where
+  module _ {p : Filtered} (f : answer ≡ Ok p) where
     -- what an answer with a picture has shown
-    pub file_shown : FileAccepted recipe still (lent (length work) (length rows) (length sums) (length out)) W H c T n
+    pub file_shown : FileAccepted recipe still (lent (length work) (length rows) (length sums) (length out)) p
     file_shown = file_accepted m recipe still (lent (length work) (length rows) (length sums) (length out)) (sym e ∙ f)
 
     -- what was written lies within T
     pub file_filters : {work' : List ℕ} {rows' : List ℤ} {sums' out' : List ℕ} → Bytes recipe → Bytes still
-        → out' ≡ header_bytes W H c ++ (filtered_raster W H c (recipe_stages recipe) (drop (length still - W * H * c) still) ++ drop (file_size W H c) out)
+        → out' ≡ header_bytes p.width p.height p.channels ++ (filtered_raster p.width p.height p.channels (recipe_stages recipe) (drop (length still - p.width * p.height * p.channels) still) ++ drop (file_size p.width p.height p.channels) out)
         → FiltersFile m recipe still work work' rows rows' sums sums' out out' answer
     file_filters rb sb o =
         let sound = recipe_sound recipe rb file_shown.suffices.accepted in
-        let raster = drop (length still - W * H * c) still in record {
+        let raster = drop (length still - p.width * p.height * p.channels) still in record {
           answered = e;
           output = rw (f, file_shown.samples, ← file_shown.size_is) o;
-          within = rw (f, file_shown.samples) (λ k u v bk bu bv. file_within W H (recipe_stages recipe) sound file_shown.T-is u v bu bv c k raster (header_bytes W H c) _ _ bk (bytes_drop (length still - W * H * c) still sb) o);
+          within = rw (f, file_shown.samples) (λ k u v bk bu bv. file_within p.width p.height (recipe_stages recipe) sound file_shown.T-is u v bu bv p.channels k raster (header_bytes p.width p.height p.channels) _ _ bk (bytes_drop (length still - p.width * p.height * p.channels) still sb) o);
           work-kept = rw f tt;
           rows-kept = rw f tt;
           sums_kept = rw f tt;

@@ -9,8 +9,9 @@ ghost use Rattle.filter_answers.specs.FileAnswer.{file_size};
 ghost use Rattle.raster_filter.specs.FilteredRaster.{filtered_raster};
 ghost use Rattle.file_filter.specs.FiltersFile.{FiltersFile};
 
-use answers::File;
+use answers::Filtered;
 use filter_answers::Limits;
+use refusals::Refusal;
 use room::Lent;
 
 // The header, and after it the filtered raster. A still's raster is what ends it.
@@ -52,27 +53,21 @@ pub fn filter_file(
     rows: &mut [i32],
     sums: &mut [u32],
     out: &mut [u8],
-) -> File
+) -> Result<Filtered, Refusal>
     ensures { FiltersFile limits recipe.now still.now work.old work.new rows.old rows.new sums.old sums.new out.old out.new result }
 {
-    let lent = Lent {
-        works: work.len(),
-        rows: rows.len(),
-        sums: sums.len(),
-        out: out.len(),
-    };
-    let answer = filter_answers::file_answer(recipe, still, limits, lent);
-    match answer {
-        File::Refused(_) => {}
-        File::Picture {
-            width,
-            height,
-            channels,
-            tolerance: _,
-            len: _,
-        } => run(
-            recipe, width, height, channels, still, work, rows, sums, out,
-        ),
-    }
-    answer
+    let lent = Lent::of(work, rows, sums, out);
+    let answer = filter_answers::file_answer(recipe, still, limits, lent)?;
+    run(
+        recipe,
+        answer.width,
+        answer.height,
+        answer.channels,
+        still,
+        work,
+        rows,
+        sums,
+        out,
+    );
+    Ok(answer)
 }

@@ -1,6 +1,6 @@
 -- The limits of a caller of `filter_file`: how many stages a recipe may have, and how many samples a plane (W·H).
 use Rattle.std.specs.Prelude.{ℕ, ◌*◌, ◌≤◌, List, leb, length}
-use Rattle.refusals.specs.Refusal as Refusal
+use Rattle.refusals.specs.declared.Refusal.TheVariants as Refusal
 use Rattle.refusals.specs.Refusal.{Test}
 use Rattle.model.specs.Stage.{Stage}
 use Rattle.filter_answers.specs.declared.Limits.{Limits}
@@ -19,11 +19,11 @@ panel = limits 4 8192
 
 -- more stages than the limit are refused with 28
 abbrev pub stage_limit_test : Limits → List Stage → Test
-stage_limit_test m ts = (leb (length ts) m.stages, Refusal.stage_limit)
+stage_limit_test m ts = (leb (length ts) m.stages, Refusal.StageLimit)
 
 -- more samples a plane than the limit are refused with 29, however many channels there are
 abbrev pub sample_limit_test : Limits → ℕ → ℕ → Test
-sample_limit_test m W H = (leb (W * H) m.samples, Refusal.sample_limit)
+sample_limit_test m W H = (leb (W * H) m.samples, Refusal.SampleLimit)
 
 -- limits a that are at most b: neither number is larger
 pub record AtMost (a b : Limits) : Type 0 where

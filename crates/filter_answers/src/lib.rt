@@ -1,16 +1,15 @@
 // What the two filtering calls answer, by the numbers and the bytes that they are given.
 #![tactic(auto)]
 
-ghost use Rattle.std.specs.Prelude.{◌≡◌, ◌≤◌};
+ghost use Rattle.std.specs.Prelude.{◌≡◌, ◌≤◌, Ok};
 ghost use Rattle.refusals.specs.Refusal.{verdict};
-ghost use Rattle.refusals.specs.declared.Verdict.TheVariants.{Passed};
 ghost use Rattle.still_reader.specs.Read.{still_of};
 ghost use Rattle.recipe.specs.Recipe.{recipe_tests, recipe_stages};
 ghost use Rattle.filter_answers.specs.PlaneAnswer.{plane_tests, plane_answer};
 ghost use Rattle.filter_answers.specs.FileAnswer.{file_size, still_answer, picture_answer, Asked, lent_tests, file_answer};
 
-use answers::{File, Filtered, Recipe, Still};
-use refusals::Verdict;
+use answers::Filtered;
+use refusals::Refusal;
 use room::Lent;
 
 // The limits of a caller: how many stages a recipe may have, and how many samples a plane of a still.
@@ -33,42 +32,39 @@ pub const PANEL: Limits = Limits {
 };
 
 // The tests after the recipe's, of an accepted recipe.
-fn plane_tests(recipe: &[u8], w: usize, h: usize, samples: usize, lent: Lent) -> Verdict
-    requires { verdict (recipe_tests recipe.now) ≡ Passed }
+fn plane_tests(recipe: &[u8], w: usize, h: usize, samples: usize, lent: Lent) -> Result<(), Refusal>
+    requires { verdict (recipe_tests recipe.now) ≡ Ok tt }
     ensures { result ≡ verdict (plane_tests recipe.now w h samples lent) }
 {
     if recipe[0] != 1 {
-        return Verdict::Refused(refusals::COUNT);
+        return Err(Refusal::Count);
     }
-    if picture_sizes::is_side(w) {
-        if picture_sizes::is_side(h) {
-            let size = w * h;
-            if samples < size {
-                return Verdict::Refused(refusals::RASTER_SHORT);
-            }
-            if size < samples {
-                return Verdict::Refused(refusals::RASTER_LONG);
-            }
-            return room::tests(recipe, w, h, size, lent);
-        }
+    if !picture_sizes::is_side(w) || !picture_sizes::is_side(h) {
+        return Err(Refusal::Side);
     }
-    Verdict::Refused(refusals::SIDE)
+    let size = w * h;
+    if samples < size {
+        return Err(Refusal::RasterShort);
+    }
+    if size < samples {
+        return Err(Refusal::RasterLong);
+    }
+    room::tests(recipe, w, h, size, lent)
 }
 
-// What a call with these numbers answers.
-pub fn plane_answer(bytes: &[u8], w: usize, h: usize, samples: usize, lent: Lent) -> Filtered
+// What a call with these numbers answers: T.
+pub fn plane_answer(
+    bytes: &[u8],
+    w: usize,
+    h: usize,
+    samples: usize,
+    lent: Lent,
+) -> Result<u64, Refusal>
     ensures { result ≡ plane_answer bytes.now w h samples lent }
 {
-    match recipe::read_recipe(bytes) {
-        Recipe::Refused(n) => Filtered::Refused(n),
-        Recipe::Stages {
-            count: _,
-            tolerance,
-        } => match plane_tests(bytes, w, h, samples, lent) {
-            Verdict::Refused(n) => Filtered::Refused(n),
-            Verdict::Passed => Filtered::Tolerance(tolerance),
-        },
-    }
+    let tolerance = recipe::read_recipe(bytes)?.tolerance;
+    plane_tests(bytes, w, h, samples, lent)?;
+    Ok(tolerance)
 }
 
 // How many bytes the file of such a picture has: its header's, and one for each sample.
@@ -77,76 +73,55 @@ pub fn file_size(width: usize, height: usize, channels: usize) -> usize
     ensures { result ≡ file_size width height channels }
 {
     let head = header_writer::header(width, height, channels);
-    head.len + width * height * channels
+    head.len() + width * height * channels
 }
 
 // The answer to a still by a recipe with this tolerance, whatever is lent.
-fn still_answer(tolerance: u64, still: &[u8], limits: Limits) -> File
+fn still_answer(tolerance: u64, still: &[u8], limits: Limits) -> Result<Filtered, Refusal>
     ensures { result ≡ still_answer limits tolerance (still_of still.now) }
 {
-    let most_samples = limits.samples;
-    match still_reader::read_still(still) {
-        Still::Refused(n) => File::Refused(n),
-        Still::Picture {
-            width,
-            height,
-            channels,
-            start: _,
-        } => {
-            if most_samples < width * height {
-                return File::Refused(refusals::SAMPLE_LIMIT);
-            }
-            File::Picture {
-                width,
-                height,
-                channels,
-                tolerance,
-                len: file_size(width, height, channels),
-            }
-        }
+    let picture = still_reader::read_still(still)?;
+    if limits.samples < picture.width * picture.height {
+        return Err(Refusal::SampleLimit);
     }
+    Ok(Filtered {
+        width: picture.width,
+        height: picture.height,
+        channels: picture.channels,
+        tolerance,
+        len: file_size(picture.width, picture.height, picture.channels),
+    })
 }
 
 // The answer to a recipe and a still, whatever is lent.
-pub fn picture_answer(bytes: &[u8], still: &[u8], limits: Limits) -> File
+pub fn picture_answer(bytes: &[u8], still: &[u8], limits: Limits) -> Result<Filtered, Refusal>
     ensures { result ≡ picture_answer limits bytes.now still.now }
 {
-    let most_stages = limits.stages;
-    match recipe::read_recipe(bytes) {
-        Recipe::Refused(n) => File::Refused(n),
-        Recipe::Stages { count, tolerance } => {
-            if most_stages < count as usize {
-                return File::Refused(refusals::STAGE_LIMIT);
-            }
-            still_answer(tolerance, still, limits)
-        }
+    let recipe = recipe::read_recipe(bytes)?;
+    if limits.stages < usize::from(recipe.count) {
+        return Err(Refusal::StageLimit);
     }
+    still_answer(recipe.tolerance, still, limits)
 }
 
 // The tests of the lent buffers for such an answer.
-pub fn lent_tests(recipe: &[u8], answer: File, lent: Lent) -> Verdict
-    requires { Asked recipe.now answer }
-    ensures { result ≡ verdict (lent_tests (recipe_stages recipe.now) lent answer) }
+pub fn lent_tests(recipe: &[u8], picture: Filtered, lent: Lent) -> Result<(), Refusal>
+    requires { Asked recipe.now (Ok picture) }
+    ensures { result ≡ verdict (lent_tests (recipe_stages recipe.now) lent (Ok picture)) }
 {
-    match answer {
-        File::Refused(_) => Verdict::Passed,
-        File::Picture {
-            width,
-            height,
-            channels: _,
-            tolerance: _,
-            len,
-        } => room::tests(recipe, width, height, len, lent),
-    }
+    room::tests(recipe, picture.width, picture.height, picture.len, lent)
 }
 
 // What a call with these limits and buffers answers.
-pub fn file_answer(recipe: &[u8], still: &[u8], limits: Limits, lent: Lent) -> File
+pub fn file_answer(
+    recipe: &[u8],
+    still: &[u8],
+    limits: Limits,
+    lent: Lent,
+) -> Result<Filtered, Refusal>
     ensures { result ≡ file_answer limits recipe.now still.now lent }
 {
-    let answer = picture_answer(recipe, still, limits);
-    match lent_tests(recipe, answer, lent) {
-        Verdict::Refused(n) => File::Refused(n),
-        Verdict::Passed => answer,
-    }
+    let picture = picture_answer(recipe, still, limits)?;
+    lent_tests(recipe, picture, lent)?;
+    Ok(picture)
 }

@@ -2,11 +2,12 @@
 use Prim.Native.Nat.{ℕ, ◌+◌, ◌*◌, ◌-◌, ◌≤◌, ◌<◌}
 use native.Mathlib.Nat.{mul-le-mul}
 use native.Mathlib.Omega.{arith}
-use mathlib.Core.Path.{◌≡◌, sym, ap, ◌∙◌, subst}
-use mathlib.Core.List.{List, ◌++◌}
+use mathlib.Core.Path.{◌≡◌, sym, ap, ◌∙◌}
+use mathlib.Core.List.{List, ◌++◌, append_assoc}
 use lib.ListN.{length, drop, take}
+use lib.Seq.{take_at, drop_at, drop-drop}
 use Rattle.lists.specs.Tabulate.{tabulate}
-use Rattle.lists.proofs.Tabulate.{fill_part, tabulate_ext, tabulate-get_or}
+use Rattle.lists.proofs.Tabulate.{fill_part, length-tabulate, tabulate-add, tabulate_ext, tabulate-get_or}
 use Rattle.lists.proofs.Raster.{row_fits}
 use Rattle.model_laws.proofs.Border.{supply_identity}
 use Rattle.stage_values.specs.Stands.{border_is}
@@ -24,20 +25,27 @@ module _ (f : Frame) (row : List ℕ) (h : f.width ≤ length row) where
       add_sub : (i : ℕ) → 15 + i - 15 ≡ i
       add_sub i = omega arith
 
-  pub row_with_sides : (d l m p q : List ℕ)
+  -- after the left side, in a buffer that was d
+  middle : (d l p : List ℕ) → l ≡ tabulate (row_sample f row) 15 ++ drop 15 d → p ≡ take f.width row
+      → take 15 l ++ (p ++ drop (15 + f.width - 15) (drop 15 l)) ≡ tabulate (row_sample f row) (15 + f.width) ++ drop (15 + f.width) d
+  middle d l p el ep =
+      let front = tabulate (row_sample f row) 15 in
+      let n = length-tabulate (row_sample f row) 15 in
+      let k : 15 + f.width - 15 ≡ f.width = omega arith in
+      rw (k, ep ∙ row_itself, tabulate-add (row_sample f row) 15 f.width, el, take_at front (drop 15 d) 15 n, drop_at front (drop 15 d) 15 n, drop-drop, append_assoc)
+
+  pub row_with_sides : (d l p q : List ℕ)
       → l ≡ tabulate (λ i. row_sample f row (0 + i)) 15 ++ drop 15 d
-      → p ≡ take f.width row ++ drop f.width (take (length l - 15) (drop 15 l))
-      → m ≡ take 15 l ++ (p ++ drop (length l - 15) (drop 15 l))
-      → q ≡ tabulate (λ i. row_sample f row (15 + f.width + i)) 15 ++ drop 15 (take (length m - (15 + f.width)) (drop (15 + f.width) m))
+      → p ≡ take f.width row
+      → let m = take 15 l ++ (p ++ drop (15 + f.width - 15) (drop 15 l)) in
+      q ≡ tabulate (λ i. row_sample f row (15 + f.width + i)) 15 ++ drop 15 (take (length m - (15 + f.width)) (drop (15 + f.width) m))
       → take (15 + f.width) m ++ (q ++ drop (length m - (15 + f.width)) (drop (15 + f.width) m)) ≡ tabulate (row_sample f row) (f.width + 30) ++ drop (f.width + 30) d
-  row_with_sides d l m p q el ep em eq =
+  row_with_sides d l p q el ep eq =
       let w = f.width in
       let at = row_sample f row in
       let e : 15 + w + 15 ≡ w + 30 = omega arith in
       let el' : l ≡ tabulate at 15 ++ drop 15 d = el ∙ ap (λ (t : List ℕ). t ++ drop 15 d) (tabulate_ext _ at 15 (λ i k. ap at (omega arith))) in
-      let ep' = ep ∙ ap (λ (t : List ℕ). t ++ drop w (take (length l - 15) (drop 15 l))) row_itself in
-      subst (λ (n : ℕ). take (15 + w) m ++ (q ++ drop (length m - (15 + w)) (drop (15 + w) m)) ≡ tabulate at n ++ drop n d) e
-      (fill_part at (15 + w) 15 d m q (em ∙ fill_part at 15 w d l p el' ep') eq)
+      rw e at (fill_part at (15 + w) 15 d _ q (middle d l p el' ep) eq)
 
 module _ {f : Frame} {samples : List ℕ} (v : ℕ) (h : Framed f samples) (k : v < f.height) where
   -- a row that is inside lies within the samples

@@ -6,7 +6,7 @@ use mathlib.Core.Option.{Option, none, some}
 use mathlib.Core.List.{List}
 use lib.ListN.{drop}
 use lib.Seq.{get_or-drop}
-use lib.IntN.{ℤ, pos, ◌+ℤ◌, ◌-ℤ◌}
+use lib.IntN.{pos, ◌+ℤ◌, ◌-ℤ◌}
 use Rattle.integers.proofs.Parts.{parts_ext, sub_parts, add_parts}
 use Rattle.lists.specs.Tabulate.{raster}
 use Rattle.lists.proofs.Raster.{raster_ext}

@@ -25,10 +25,10 @@ fn sample(frame: Frame, row: &[u8], x: usize) -> u8
     requires { (1 ≤ frame.width) × (frame.width ≤ 8192) × (frame.width ≤ length row.now) × (x ≤ 16384) }
     ensures { result ≡ row_sample frame row.now x }
 {
-    let border = frame.border;
-    let w = frame.width;
-    let u = places::place(border, w, x);
-    if u < w { row[u] } else { frame.value }
+    match places::place(frame.border, frame.width, x) {
+        Some(u) => row[u],
+        None => frame.value,
+    }
 }
 
 // The 15 samples of a row from place `from` on.
@@ -36,10 +36,8 @@ fn side(frame: Frame, row: &[u8], from: usize, dst: &mut [u8])
     requires { (1 ≤ frame.width) × (frame.width ≤ 8192) × (frame.width ≤ length row.now) × (from ≤ 8300) × (15 ≤ length dst.old) }
     ensures { dst.new ≡ tabulate (λ i. row_sample frame row.now (from + i)) 15 ++ drop 15 dst.old }
 {
-    let mut i = 0;
-    while i < 15 {
+    for i in 0..15 {
         dst[i] = sample(frame, row, from + i);
-        i += 1;
     }
 }
 
@@ -49,9 +47,9 @@ fn row_and_sides(frame: Frame, row: &[u8], dst: &mut [u8])
     ensures { dst.new ≡ tabulate (row_sample frame row.now) (frame.width + 30) ++ drop (frame.width + 30) dst.old }
 {
     let w = frame.width;
-    side(frame, row, 0, dst);
-    buffers::copy_front(row, &mut dst[REACH..], w);
     let end = REACH + w;
+    side(frame, row, 0, dst);
+    dst[REACH..end].copy_from_slice(&row[..w]);
     side(frame, row, end, &mut dst[end..]);
 }
 
@@ -60,14 +58,9 @@ pub fn padded_row(frame: Frame, plane: &[u8], y: usize, dst: &mut [u8])
     requires { Framed frame plane.now × (y ≤ 16384) × (frame.width + 30 ≤ length dst.old) }
     ensures { dst.new ≡ tabulate (λ x. padded frame plane.now x y) (frame.width + 30) ++ drop (frame.width + 30) dst.old }
 {
-    let border = frame.border;
     let w = frame.width;
-    let h = frame.height;
-    let v = places::place(border, h, y);
-    if v < h {
-        let at = v * w;
-        row_and_sides(frame, &plane[at..], dst);
-    } else {
-        buffers::fill_front(dst, w + 30, frame.value);
+    match places::place(frame.border, frame.height, y) {
+        Some(v) => row_and_sides(frame, &plane[v * w..], dst),
+        None => dst[..w + 30].fill(frame.value),
     }
 }

@@ -8,18 +8,15 @@ ghost use Rattle.gain_tests.specs.Gain.{gain_test};
 ghost use Rattle.gain_tests.specs.Kept.{Kept};
 
 use kernels::Kernel;
-use refusals::Verdict;
+use refusals::Refusal;
 
 // Whether the gain of a kernel is at most 4.
-pub fn gain(k: Kernel) -> Verdict
+pub fn gain(k: Kernel) -> Result<(), Refusal>
     requires { Kept k.values k.len k.divisor }
     ensures { result ≡ verdict (gain_test (kernel_of k.divisor k.offsets k.values k.len) ∷ []) }
 {
-    let values = k.values;
-    let len = k.len;
-    let divisor = k.divisor;
-    if 4 * divisor < numerators::magnitude(&values, len) {
-        return Verdict::Refused(refusals::GAIN);
+    if 4 * k.divisor < numerators::magnitude(&k.values, k.len) {
+        return Err(Refusal::Gain);
     }
-    Verdict::Passed
+    Ok(())
 }

@@ -2,72 +2,106 @@
 #![tactic(auto)]
 
 ghost use Rattle.std.specs.Prelude.{◌≡◌, [], ◌∷◌, ◌++◌, ◌+◌, ◌≤◌, ◌<◌, length, drop};
-ghost use Rattle.header_writer.specs.Heading.{Sized, Extended, decimal, magic_line, header_bytes};
+ghost use Rattle.header_writer.specs.Heading.{decimal, magic_line, header_bytes};
 
-// The bytes of a header so far. The longest, of 8192 by 8192, has 17.
-#[derive(Clone, Copy)]
+use std::marker::Model;
+
+// The longest header, of 8192 by 8192, has so many bytes.
+const LONGEST: usize = 17;
+
+// The bytes of a header so far.
+#[derive(Drop)]
 pub struct Head {
-    pub bytes: [u8; 17],
-    pub len: usize,
+    bytes: [u8; LONGEST],
+    len: usize,
 }
 
-// One byte more.
-fn with_byte(head: Head, b: u8) -> Head
-    requires { head.len < 17 }
-    ensures { Extended head.bytes head.len result.bytes result.len (b ∷ []) }
-{
-    let at = head.len;
-    let mut next = head;
-    next.bytes[at] = b;
-    next.len = at + 1;
-    next
+impl Model for Head {
+    ghost use Rattle.std.specs.Prelude.{ℕ, ◌≤◌, List, take};
+
+    ghost Value = { List ℕ };
+
+    ghost view = { λ head. take head.len head.bytes };
+
+    ghost invariant = { λ head. head.len ≤ 17 };
 }
 
-// The decimal digits of a number more.
-fn with_number(head: Head, n: usize) -> Head
-    requires { head.len + length (decimal n) ≤ 17 }
-    ensures { Extended head.bytes head.len result.bytes result.len (decimal n) }
-{
-    if n < 10 {
-        return with_byte(head, (48 + n % 10) as u8);
+impl Head {
+    fn new() -> Self
+        ensures { result ≡ [] }
+    {
+        Head {
+            bytes: [0; LONGEST],
+            len: 0,
+        }
     }
-    with_byte(with_number(head, n / 10), (48 + n % 10) as u8)
+
+    pub fn len(&self) -> usize
+        ensures { result ≡ length self.now }
+    {
+        self.len
+    }
+
+    // One byte more.
+    fn push(&mut self, b: u8)
+        requires { length self.old < 17 }
+        ensures { self.new ≡ self.old ++ b ∷ [] }
+    {
+        self.bytes[self.len] = b;
+        self.len += 1;
+    }
+
+    // Some bytes more.
+    fn extend_from_slice(&mut self, more: &[u8])
+        requires { length self.old + length more.now ≤ 17 }
+        ensures { self.new ≡ self.old ++ more.now }
+    {
+        let end = self.len + more.len();
+        self.bytes[self.len..end].copy_from_slice(more);
+        self.len = end;
+    }
+
+    // The decimal digits of a number more.
+    fn push_number(&mut self, n: usize)
+        requires { length self.old + length (decimal n) ≤ 17 }
+        ensures { self.new ≡ self.old ++ decimal n }
+    {
+        if n >= 10 {
+            self.push_number(n / 10);
+        }
+        self.push(b'0' + (n % 10) as u8);
+    }
+
+    // The bytes so far into the front of out.
+    fn put(&self, out: &mut [u8])
+        requires { length self.now ≤ length out.old }
+        ensures { out.new ≡ self.now ++ drop (length self.now) out.old }
+    {
+        buffers::copy_front(&self.bytes, out, self.len);
+    }
 }
 
 // Magic and LF.
-fn opening(channels: usize) -> Head
-    ensures { Sized result.bytes result.len (magic_line channels) }
+#[tactic(auto, unfolding(crate::specs::Heading::magic_line))]
+fn magic(channels: usize) -> &'static [u8; 3]
+    ensures { result.now ≡ magic_line channels }
 {
-    let mut bytes = [0u8; 17];
-    bytes[0] = 80;
-    bytes[1] = 54;
-    bytes[2] = 10;
-    if channels == 1 {
-        bytes[1] = 53;
-        return Head { bytes, len: 3 };
-    }
-    Head { bytes, len: 3 }
-}
-
-// LF, 255, LF.
-fn closing(head: Head) -> Head
-    requires { head.len + 5 ≤ 17 }
-    ensures { Extended head.bytes head.len result.bytes result.len (10 ∷ 50 ∷ 53 ∷ 53 ∷ 10 ∷ []) }
-{
-    let line = with_byte(head, 10);
-    let two = with_byte(line, 50);
-    let five = with_byte(two, 53);
-    let maximum = with_byte(five, 53);
-    with_byte(maximum, 10)
+    if channels == 1 { b"P5\n" } else { b"P6\n" }
 }
 
 // The header of a still.
+#[tactic(auto, using(crate::proofs::HeadingLaws::decimal_few), unfolding(crate::specs::Heading::magic_line, crate::specs::Heading::header_bytes))]
 pub fn header(width: usize, height: usize, channels: usize) -> Head
     requires { (width ≤ 8192) × (height ≤ 8192) }
-    ensures { Sized result.bytes result.len (header_bytes width height channels) }
+    ensures { result ≡ header_bytes width height channels }
 {
-    let first = with_byte(with_number(opening(channels), width), 32);
-    closing(with_number(first, height))
+    let mut head = Head::new();
+    head.extend_from_slice(magic(channels));
+    head.push_number(width);
+    head.push(b' ');
+    head.push_number(height);
+    head.extend_from_slice(b"\n255\n");
+    head
 }
 
 // The header of a still into the front of out, giving its length.
@@ -76,8 +110,6 @@ pub fn put_header(width: usize, height: usize, channels: usize, out: &mut [u8]) 
     ensures { (result ≡ length (header_bytes width height channels)) × (out.new ≡ header_bytes width height channels ++ drop result out.old) }
 {
     let head = header(width, height, channels);
-    let len = head.len;
-    let bytes = head.bytes;
-    buffers::copy_front(&bytes, out, len);
-    len
+    head.put(out);
+    head.len()
 }

@@ -3,8 +3,8 @@
 
 ghost use Rattle.program_filter.specs.Program.{Saves};
 
-use answers::File;
-use disk_tests::Found;
+use answers::Filtered;
+use refusals::Refusal;
 use std::rt::Files;
 use std::{fs, io};
 
@@ -15,41 +15,43 @@ fn save(rt: &impl Files<File = fs::File>, recipe: &[u8], still: &[u8], bytes: &[
     disk::save(rt, bytes)
 }
 
-// `out` is opened only once the call has accepted, and the line waits until it is written.
+// `out` is opened only once the call has accepted.
 fn filter(
-    rt: &(impl Files<File = fs::File> + Print),
+    rt: &impl Files<File = fs::File>,
     recipe: &[u8],
     still: &[u8],
-) -> io::Result<()> {
+) -> Result<Filtered, Refusal> {
     let mut out = [0u8; 65536];
-    match program_filter::filter_still(recipe, still, &mut out) {
-        File::Refused(n) => printing::refusal(rt, n),
-        File::Picture {
-            width,
-            height,
-            channels,
-            tolerance,
-            len,
-        } => {
-            if save(rt, recipe, still, &out[..len]) {
-                printing::picture(rt, width, height, channels)?;
-                printing::number(rt, tolerance)
-            } else {
-                printing::refusal(rt, refusals::FILE_UNREAD)
-            }
-        }
+    let picture = program_filter::filter_still(recipe, still, &mut out)?;
+    if save(rt, recipe, still, &out[..picture.len]) {
+        Ok(picture)
+    } else {
+        Err(Refusal::FileUnread)
     }
 }
 
 // One byte more than a file may have tells that it is over.
-fn main(rt: HostRuntime) -> io::Result<()> {
+fn run(rt: &impl Files<File = fs::File>) -> Result<Filtered, Refusal> {
     let mut still = [0u8; 65537];
     let mut recipe = [0u8; 4097];
-    let s = disk::load(&rt, b"still", &mut still);
-    let r = disk::load(&rt, b"recipe", &mut recipe);
-    match disk_tests::tested(s, r) {
-        Found::Refused(n) => printing::refusal(&rt, n)?,
-        Found::Lengths(a, b) => filter(&rt, &recipe[..b], &still[..a])?,
+    let s = disk::load(rt, b"still", &mut still);
+    let r = disk::load(rt, b"recipe", &mut recipe);
+    let (a, b) = disk_tests::tested(s, r)?;
+    filter(rt, &recipe[..b], &still[..a])
+}
+
+// The line waits until `out` is written.
+fn main(rt: HostRuntime) -> io::Result<()> {
+    match run(&rt) {
+        Err(refusal) => println!(rt; "{refusal}"),
+        Ok(
+            Filtered {
+                width,
+                height,
+                channels,
+                tolerance,
+                ..
+            },
+        ) => println!(rt; "ok {width} {height} {channels} {tolerance}"),
     }
-    printing::end(&rt)
 }

@@ -5,10 +5,11 @@ use native.Mathlib.Numerals.{add-one}
 use native.Mathlib.Omega.{arith}
 use mathlib.Core.Path.{◌≡◌, refl, sym, ap}
 use mathlib.Core.Logic.{⊎_elim}
-use mathlib.Core.Bool.{Bool, cond}
+use mathlib.Core.Bool.{Bool, true, false, cond}
 use mathlib.Core.List.{List, [], ◌∷◌}
 use lib.ListN.{length, get_or, replicate}
 use lib.Dec.{eqb, leb, ltb, leb→le, lt→ltb, leb-suc-suc}
+use mir.Val.{bool_byte}
 use borrow.Author.Tests.{lt-ltb, le-ltb}
 use Rattle.lists.specs.Tabulate.{tabulate}
 use Rattle.lists.specs.Count.{count, at_most}
@@ -65,9 +66,14 @@ alike_not_below n x g h = rw (count_alike (λ y. ltb y g) n x, le-ltb x g h) (om
 pub below_none_of : (f : ℕ → ℕ) (g : ℕ) → 0 ≡ below_level g (tabulate f 0)
 below_none_of f g = sym (count_none (λ x. ltb x g) f)
 
+-- a test's bit as the code has it
+byte_bit : (b : Bool) → bool_byte b ≡ cond b 1 0
+byte_bit true = refl
+byte_bit false = refl
+
 -- and one more, by its bit
-pub below-one-more : (f : ℕ → ℕ) (g i x n : ℕ) {b : ℕ} → x ≡ f i → n ≡ below_level g (tabulate f i) → b ≡ cond (ltb x g) 1 0 → n + b ≡ below_level g (tabulate f (i + 1))
-below-one-more f g i x n q e t = omega (arith, count-more (λ y. ltb y g) f i, ap (λ (z : ℕ). cond {A = ℕ} (ltb z g) 1 0) q)
+pub below-one-more : (f : ℕ → ℕ) (g i n : ℕ) {b : ℕ} → n ≡ below_level g (tabulate f i) → b ≡ bool_byte (ltb (f i) g) → n + b ≡ below_level g (tabulate f (i + 1))
+below-one-more f g i n e t = omega (arith, count-more (λ y. ltb y g) f i, t, byte_bit (ltb (f i) g))
 
 -- no more samples are below a level than there are
 pub few_below : (f : ℕ → ℕ) (g i n : ℕ) → n ≡ below_level g (tabulate f i) → n ≤ i
@@ -81,9 +87,9 @@ unfolding total
 total-none c = refl
 
 -- one count more
-pub total-more : (c : List ℕ) (n : ℕ) → total c (n + 1) ≡ total c n + get_or c n 0
+pub total_more : (c : List ℕ) (n : ℕ) → total c (n + 1) ≡ total c n + get_or c n 0
 unfolding total
-total-more c n = rw add-one
+total_more c n = rw add-one
 
 -- where the sum is not 0 there is a level before, and its count is in the sum
 pub total_last : (c : List ℕ) (n : ℕ) → 1 ≤ total c n → (1 ≤ n) × (total c n ≡ total c (n - 1) + get_or c (n - 1) 0)
@@ -92,8 +98,8 @@ total_last c zero h = absurd (omega arith)
 total_last c (suc n) h = let e : suc n - 1 ≡ n = omega arith in (omega arith, rw e refl)
 
 -- where the sum through a level is not all of it there is a level after
-pub total-room : (c : List ℕ) (n p : ℕ) → n ≤ 255 → total c n + get_or c n 0 < p → p ≤ total c 256 → n < 255
-total-room c n p h k l = ⊎_elim (λ (e : n ≡ 255). absurd (omega (arith, ap (λ (m : ℕ). total c m + get_or c m 0) e, total-more c 255))) (λ (m : n < 255). m) (eq-or-lt_of_le h)
+pub total_room : (c : List ℕ) (n p : ℕ) → n ≤ 255 → total c n + get_or c n 0 < p → p ≤ total c 256 → n < 255
+total_room c n p h k l = ⊎_elim (λ (e : n ≡ 255). absurd (omega (arith, ap (λ (m : ℕ). total c m + get_or c m 0) e, total_more c 255))) (λ (m : n < 255). m) (eq-or-lt_of_le h)
 
 -- the first n counts add up to how many samples are below n
 pub total-below : (xs : List ℕ) (n : ℕ) → n ≤ 256 → total (histogram xs) n ≡ below_level n xs

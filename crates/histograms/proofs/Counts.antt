@@ -1,17 +1,17 @@
 -- Laws of counts: samples counted more, and taken off. Assumes nothing.
-use Prim.Native.Nat.{ℕ, ◌+◌, ◌-◌, ◌*◌, ◌≤◌, ◌<◌}
+use Prim.Native.Nat.{ℕ, ◌+◌, ◌*◌, ◌≤◌, ◌<◌}
 use native.Mathlib.Nat.{lt_of_not-le}
 use native.Mathlib.Omega.{arith}
 use native.Mathlib.Decide.{dec_le}
-use mathlib.Core.Path.{◌≡◌, refl, sym, ap, ◌∙◌}
+use mathlib.Core.Path.{◌≡◌, sym, ap, ◌∙◌}
 use mathlib.Core.Bool.{cond}
-use mathlib.Core.List.{List, [], ◌∷◌, ◌++◌, append-nil}
-use lib.ListN.{length, get_or, set, replicate, length-set, drop, get_or-eq_default}
-use lib.Seq.{ext_get_or, get_or-set_same, get_or-set_other, take_all, drop-length}
+use mathlib.Core.List.{List, [], ◌∷◌, ◌++◌}
+use lib.ListN.{length, get_or, set, replicate, length-set, get_or-eq_default}
+use lib.Seq.{ext_get_or, get_or-set_same, get_or-set_other, take_all}
 use lib.Dec.{eqb}
 use Rattle.lists.specs.Tabulate.{tabulate}
 use Rattle.lists.specs.Count.{count}
-use Rattle.lists.proofs.Tabulate.{length-tabulate, get_d_tabulate, tabulate_ext, tabulate-get_or, tabulate_last}
+use Rattle.lists.proofs.Tabulate.{length-tabulate, get_d_tabulate, tabulate_ext, tabulate-get_or, tabulate_last, tabulate_const}
 use Rattle.lists.proofs.Count.{Bit, one, none, bit_eq, bit_same, count-length}
 use Rattle.lists.proofs.Sums.{count-more}
 use Rattle.lists.proofs.CountParts.{count_append, count_alike, count_front}
@@ -124,9 +124,9 @@ pub histogram-le : (l xs : List ℕ) (g : ℕ) → l ≡ histogram xs → get_or
 histogram-le l xs g e = omega (arith, counted-le [] l xs g (e ∙ is-counted xs))
 
 -- 256 zeros
-pub zeros : (l d : List ℕ) → length d ≡ 256 → l ≡ tabulate (λ _. 0) 256 ++ drop 256 d → l ≡ histogram []
+pub zeros : (l : List ℕ) (n : ℕ) → n ≡ 256 → l ≡ replicate n 0 → l ≡ histogram []
 unfolding histogram count
-zeros l d h e = rw (e, ← h, drop-length, append-nil) refl
+zeros l n h e = rw (e, h) (sym (tabulate_const 0 256))
 
 -- some samples counted after others
 pub histogram_then : (l m xs ys : List ℕ) → l ≡ histogram xs → m ≡ counted l ys → m ≡ histogram (xs ++ ys)

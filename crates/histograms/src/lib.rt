@@ -2,7 +2,7 @@
 // position is looked for from where it was.
 #![tactic(auto)]
 
-ghost use Rattle.std.specs.Prelude.{◌≡◌, cond, [], ℕ, ◌+◌, ◌≤◌, ◌<◌, length, get_or, replicate, ltb};
+ghost use Rattle.std.specs.Prelude.{◌≡◌, [], ℕ, ◌+◌, ◌≤◌, ◌<◌, length, get_or, replicate};
 ghost use Rattle.histograms.specs.Histogram.{at_level, below_level, counted, histogram, total};
 ghost use Rattle.histograms.specs.Column.{column_of, ColumnInside};
 ghost use Rattle.histograms.specs.Position.{Summed, Reaches};
@@ -19,26 +19,7 @@ pub fn clear(counts: &mut [u32])
     requires { length counts.old ≡ 256 }
     ensures { counts.new ≡ histogram [] }
 {
-    let mut g = 0;
-    while g < 256 {
-        counts[g] = 0;
-        g += 1;
-    }
-}
-
-// 1 for a sample below a level.
-fn one_below(sample: u8, level: u8) -> usize
-    ensures { result ≡ cond (ltb sample level) 1 0 }
-{
-    if sample < level { 1 } else { 0 }
-}
-
-// The sample of a column in row k.
-fn sample(plane: &[u8], rows: &[usize], k: usize, c: usize) -> u8
-    requires { (k < length rows.now) × (get_or rows.now k 0 + c < length plane.now) }
-    ensures { result ≡ get_or plane.now (get_or rows.now k 0 + c) 0 }
-{
-    plane[rows[k] + c]
+    counts.fill(0);
 }
 
 // A column's samples counted too. How many of them are below a level.
@@ -46,14 +27,11 @@ pub fn add_column(plane: &[u8], rows: &[usize], c: usize, level: u8, counts: &mu
     requires { ColumnInside plane.now rows.now c × (length rows.now ≤ 31) × (length counts.old ≡ 256) × ((g : ℕ) → get_or counts.old g 0 ≤ 961) }
     ensures { (counts.new ≡ counted counts.old (column_of plane.now rows.now c)) × (result ≡ below_level level (column_of plane.now rows.now c)) }
 {
-    let n = rows.len();
     let mut lower = 0;
-    let mut k = 0;
-    while k < n {
-        let grey = sample(plane, rows, k, c);
+    for &start in rows {
+        let grey = plane[start + c];
         counts[grey as usize] += 1;
-        lower += one_below(grey, level);
-        k += 1;
+        lower += usize::from(grey < level);
     }
     lower
 }
@@ -63,14 +41,11 @@ pub fn take_column(plane: &[u8], rows: &[usize], c: usize, level: u8, counts: &m
     requires { ColumnInside plane.now rows.now c × (length rows.now ≤ 31) × (length counts.old ≡ 256) × ((g : ℕ) → g < 256 → at_level g (column_of plane.now rows.now c) ≤ get_or counts.old g 0) }
     ensures { (counts.old ≡ counted counts.new (column_of plane.now rows.now c)) × (result ≡ below_level level (column_of plane.now rows.now c)) }
 {
-    let n = rows.len();
     let mut lower = 0;
-    let mut k = 0;
-    while k < n {
-        let grey = sample(plane, rows, k, c);
+    for &start in rows {
+        let grey = plane[start + c];
         counts[grey as usize] -= 1;
-        lower += one_below(grey, level);
-        k += 1;
+        lower += usize::from(grey < level);
     }
     lower
 }
@@ -102,12 +77,15 @@ fn count_of(counts: &[u32], level: u8) -> usize
 }
 
 // Down to a level below which fewer than p samples are.
+#[tactic(auto, using(crate::proofs::Below::total_last))]
 fn down_to(counts: &[u32], p: usize, from: Reached) -> Reached
     requires { (length counts.now ≡ 256) × (1 ≤ p) × Summed counts.now from }
     ensures { Summed counts.now result × (result.below < p) }
 {
-    let mut level = from.level;
-    let mut below = from.below;
+    let Reached {
+        mut level,
+        mut below,
+    } = from;
     while p <= below {
         level -= 1;
         below -= count_of(counts, level);
@@ -116,12 +94,15 @@ fn down_to(counts: &[u32], p: usize, from: Reached) -> Reached
 }
 
 // Up to the level at which the sum reaches p.
+#[tactic(auto, using(crate::proofs::Below::total_more))]
 fn up_to(counts: &[u32], p: usize, from: Reached) -> Reached
     requires { (length counts.now ≡ 256) × (p ≤ 961) × (p ≤ total counts.now 256) × Summed counts.now from × (from.below < p) }
     ensures { Reaches counts.now p result }
 {
-    let mut level = from.level;
-    let mut below = from.below;
+    let Reached {
+        mut level,
+        mut below,
+    } = from;
     let mut here = count_of(counts, level);
     while below + here < p {
         below += here;

@@ -32,20 +32,19 @@ fn shares(values: &[u64], offsets: &[u8], n: usize, divisor: u64) -> Apportioned
     ensures { (31 ≡ length result.weights) × (take n result.weights ≡ map (λ t. t.weight) (apportion (kernel_of divisor offsets.now values.now n))) × (result.rounded ≡ rounded_taps (kernel_of divisor offsets.now values.now n)) }
 {
     let left = spare_units::remainders(values, n, divisor);
-    let rest = left.rest;
-    let lacking = spare_units::lacking_units(&rest, n, divisor);
-    let rounded = left.rounded;
+    let lacking = spare_units::lacking_units(&left.rest, n, divisor);
     let mut weights = [0i32; 31];
-    let mut i = 0;
-    while i < n {
+    for i in 0..n {
         weights[i] = share(
             values[i],
             divisor,
-            spare_units::unit_of(&rest, offsets, n, i, lacking),
+            spare_units::unit_of(&left.rest, offsets, n, i, lacking),
         );
-        i += 1;
     }
-    Apportioned { weights, rounded }
+    Apportioned {
+        weights,
+        rounded: left.rounded,
+    }
 }
 
 // A kernel as it was read: offsets 15 too large, numerators 2^38 too large.
@@ -61,19 +60,15 @@ pub fn axis_of(k: Kernel) -> Axis
     requires { Limits k.divisor k.offsets k.values k.len }
     ensures { Ready (kernel_of k.divisor k.offsets k.values k.len) result }
 {
+    let shared = shares(&k.values, &k.offsets, k.len, k.divisor);
+    let gain = numerators::scaled_gain(numerators::magnitude(&k.values, k.len), k.divisor);
     let offsets = k.offsets;
-    let values = k.values;
-    let len = k.len;
-    let divisor = k.divisor;
-    let shared = shares(&values, &offsets, len, divisor);
-    let gain = numerators::scaled_gain(numerators::magnitude(&values, len), divisor);
     let weights = shared.weights;
-    let rounded = shared.rounded;
     Axis {
         offsets,
         weights,
-        len,
-        rounded,
+        len: k.len,
+        rounded: shared.rounded,
         gain,
     }
 }

@@ -12,9 +12,9 @@ fn window_sum(upper: &[u32], lower: &[u32], across: usize, u: usize) -> u32
     requires { (across + u < length upper.now) × (across + u < length lower.now) }
     ensures { result ≡ corners upper.now lower.now across u }
 {
-    let right = std::num::wrapping_sub_u32(lower[across + u], upper[across + u]);
-    let left = std::num::wrapping_sub_u32(lower[u], upper[u]);
-    std::num::wrapping_sub_u32(right, left)
+    let right = lower[across + u].wrapping_sub(upper[across + u]);
+    let left = lower[u].wrapping_sub(upper[u]);
+    right.wrapping_sub(left)
 }
 
 // 2^32 / (2 area), rounded up.
@@ -47,9 +47,7 @@ pub fn mean_row(
     requires { (w ≤ length dst.old) × (across + w ≤ length upper.now) × (across + w ≤ length lower.now) × (1 ≤ area) × (area ≤ 961) × (by ≡ reciprocal_of area) × ((u : ℕ) → u < w → corners upper.now lower.now across u ≤ 255 * area) }
     ensures { dst.new ≡ tabulate (λ u. nearest (corners upper.now lower.now across u) area) w ++ drop w dst.old }
 {
-    let mut u = 0;
-    while u < w {
+    for u in 0..w {
         dst[u] = mean(window_sum(upper, lower, across, u), area, by);
-        u += 1;
     }
 }

@@ -2,11 +2,12 @@
 use Prim.Native.Nat.{ℕ, ◌+◌, ◌-◌, ◌*◌, ◌≤◌}
 use native.Mathlib.Nat.{le_antisymm}
 use native.Mathlib.Omega.{arith}
-use mathlib.Core.Path.{◌≡◌, sym, ap, ◌∙◌}
-use mathlib.Core.Bool.{cond}
+use mathlib.Core.Path.{◌≡◌, refl, sym, ap, ◌∙◌}
+use mathlib.Core.Bool.{Bool, true, false, cond}
 use mathlib.Core.List.{List}
 use lib.ListN.{length, get_or}
 use lib.Dec.{leb, ltb}
+use mir.Val.{bool_byte}
 use Rattle.lists.specs.Tabulate.{tabulate}
 use Rattle.lists.proofs.Tabulate.{length-tabulate}
 use Rattle.lists.proofs.Sums.{count-more}
@@ -19,6 +20,11 @@ use Rattle.movement_laws.proofs.Counting.{counts-add-up, is_moved_lem, is-still}
 abbrev pub at : ℕ → ℕ → ℕ → List ℕ → List ℕ → ℕ → Motion
 at L T T' xs ys i = motion L T T' (get_or xs i 0) (get_or ys i 0)
 
+-- a test's bit, as a number
+bit : (b : Bool) → cond b 1 0 ≡ bool_byte b
+bit true = refl
+bit false = refl
+
 module _ (L T T' : ℕ) (xs ys : List ℕ) where
   -- no count passes the number of samples
   pub tally_fits : (i : ℕ) → moved_count (tabulate (at L T T' xs ys) i) + still_count (tabulate (at L T T' xs ys) i) ≤ i
@@ -26,13 +32,13 @@ module _ (L T T' : ℕ) (xs ys : List ℕ) where
 
   -- one sample more, d 65,536ths apart
   module _ (i : ℕ) {d : ℕ} (e : d ≡ 65536 * distance (get_or xs i 0) (get_or ys i 0)) where
-    pub moved_more : {m m' : ℕ} → m ≡ moved_count (tabulate (at L T T' xs ys) i) → m' ≡ m + cond (ltb (65536 * L + (T + T')) d) 1 0 → m' ≡ moved_count (tabulate (at L T T' xs ys) (i + 1))
+    pub moved_more : {m k : ℕ} → m ≡ moved_count (tabulate (at L T T' xs ys) i) → k ≡ bool_byte (ltb (65536 * L + (T + T')) d) → m + k ≡ moved_count (tabulate (at L T T' xs ys) (i + 1))
     unfolding surely_moved
-    moved_more f g = g ∙ rw (e, f) (sym (count-more is_moved (at L T T' xs ys) i ∙ rw (is_moved_lem L T T' (get_or xs i 0) (get_or ys i 0))))
+    moved_more f g = rw (g, e, f) (sym (count-more is_moved (at L T T' xs ys) i ∙ rw (is_moved_lem L T T' (get_or xs i 0) (get_or ys i 0), bit)))
 
-    pub still-more : {s s' : ℕ} → s ≡ still_count (tabulate (at L T T' xs ys) i) → s' ≡ s + cond (leb (d + (T + T')) (65536 * L)) 1 0 → s' ≡ still_count (tabulate (at L T T' xs ys) (i + 1))
+    pub still-more : {s k : ℕ} → s ≡ still_count (tabulate (at L T T' xs ys) i) → k ≡ bool_byte (leb (d + (T + T')) (65536 * L)) → s + k ≡ still_count (tabulate (at L T T' xs ys) (i + 1))
     unfolding surely_still
-    still-more f g = g ∙ rw (e, f) (sym (count-more is_still (at L T T' xs ys) i ∙ rw (is-still L T T' (get_or xs i 0) (get_or ys i 0))))
+    still-more f g = rw (g, e, f) (sym (count-more is_still (at L T T' xs ys) i ∙ rw (is-still L T T' (get_or xs i 0) (get_or ys i 0), bit)))
 
   -- all samples: what has neither moved nor is still is open
   pub tallied : {i m s : ℕ} → i ≤ length xs → length xs ≤ i → m ≡ moved_count (tabulate (at L T T' xs ys) i) → s ≡ still_count (tabulate (at L T T' xs ys) i)

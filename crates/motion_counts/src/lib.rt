@@ -17,19 +17,7 @@ pub struct Counts {
 fn apart(a: u8, b: u8) -> u32
     ensures { result ≡ 65536 * distance a b }
 {
-    if a < b {
-        65536 * (b - a) as u32
-    } else {
-        65536 * (a - b) as u32
-    }
-}
-
-// A count, with one more where a test has passed.
-fn plus(count: u32, passed: bool) -> u32
-    requires { count < 4294967295 }
-    ensures { result ≡ count + cond passed 1 0 }
-{
-    if passed { count + 1 } else { count }
+    65536 * u32::from(a.abs_diff(b))
 }
 
 // Counts the samples of two rasters under a limit in levels, with the tolerance of each raster. What both tests compare with is worked out once.
@@ -49,12 +37,10 @@ pub fn count_motions(
     let n = first.len();
     let mut moved: u32 = 0;
     let mut still: u32 = 0;
-    let mut i = 0;
-    while i < n {
+    for i in 0..n {
         let d = apart(first[i], second[i]);
-        moved = plus(moved, edge < d);
-        still = plus(still, d + both <= level);
-        i += 1;
+        moved += u32::from(edge < d);
+        still += u32::from(d + both <= level);
     }
     let moved = moved as usize;
     let still = still as usize;

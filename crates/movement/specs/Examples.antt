@@ -1,13 +1,13 @@
 -- Worked examples of movement. A row names the case, what the definitions give, and what they should give. The theorem at the end goes over all rows.
-use Rattle.std.specs.Prelude.{ℕ, List, [], ◌∷◌, ◌++◌, map, ◌≡◌, refl, false, replicate}
+use Rattle.std.specs.Prelude.{ℕ, List, [], ◌∷◌, ◌++◌, map, ◌≡◌, refl, false, replicate, Result, Ok, Err}
 use Prim.Native.String.{String}
 use Rattle.lists.specs.Count.{count}
 use Rattle.lists.specs.Tabulate.{tabulate}
 use Rattle.model.specs.Within.{distance}
-use Rattle.refusals.specs.Refusal as Refusal
-use Rattle.refusals.specs.Refusal.{Test, tested}
-use Rattle.answers.specs.declared.File.{File}
-use Rattle.answers.specs.declared.File.TheVariants.{Refused, Picture}
+use Rattle.refusals.specs.declared.Refusal.{Refusal}
+use Rattle.refusals.specs.declared.Refusal.TheVariants as Refusal
+use Rattle.refusals.specs.Refusal.{number, Test, tested}
+use Rattle.answers.specs.declared.Filtered.{Filtered}
 use Rattle.movement.specs.Motion.{Motion, moved, still, unsettled, surely_moved, surely_still, motion}
 use Rattle.movement.specs.Motions.{motions, moved_count, still_count, open_count}
 use Rattle.movement.specs.Truth.{exact_difference}
@@ -37,20 +37,23 @@ all L T T' = apart L T T' (tabulate (λ d. d) 256)
 unfoldable pub counted : List Motion → Answer
 counted ms = numbers (moved_count ms ∷ still_count ms ∷ open_count ms ∷ [])
 
--- what a run comes to: a picture of some size and T, of one channel
-unfoldable pub picture : ℕ → ℕ → ℕ → File
-picture W H c = Picture W H c 0 0
+-- what a run comes to: a picture of some size and T, or of one channel; or a refusal
+unfoldable pub picture : ℕ → ℕ → ℕ → Result Filtered Refusal
+picture W H c = Ok (record { width = W; height = H; channels = c; tolerance = 0; len = 0 })
 
-unfoldable pub grey : ℕ → ℕ → File
+unfoldable pub grey : ℕ → ℕ → Result Filtered Refusal
 grey W H = picture W H 1
+
+unfoldable pub refused : Refusal → Result Filtered Refusal
+refused refusal = Err refusal
 
 -- lent buffers of which one is too short
 unfoldable pub lacking : List Test
-lacking = (false, Refusal.room) ∷ []
+lacking = (false, Refusal.Room) ∷ []
 
 -- what tests in this order come to: a refusal's number, or 0
-unfoldable pub ordered : ℕ → File → File → List Test → List Test → ℕ
-ordered L first second lent1 lent2 = tested (λ n. n) (in_order L first second lent1 lent2) 0
+unfoldable pub ordered : ℕ → Result Filtered Refusal → Result Filtered Refusal → List Test → List Test → ℕ
+ordered L first second lent1 lent2 = tested number (in_order L first second lent1 lent2) 0
 
 -- With L 4 and tolerances of 30,000 and 35,536, which come to one level: 3 levels and that one are the 4 of the limit, and still; 5 levels do not pass 4 and one, and are
 -- open. One unit of tolerance more, and 3 is open; one less, and 5 has moved. 7/2 - 1/3 is 19/6, and so is its magnitude the other way round.
@@ -71,8 +74,8 @@ rows =
     (samples (motions 4 30000 35536 (10 ∷ 23 ∷ 30 ∷ 46 ∷ []) (10 ∷ 20 ∷ 35 ∷ 40 ∷ [])))
     (samples (still ∷ still ∷ unsettled ∷ moved ∷ []))
     ∷ row "how many: moved, still, open" (counted (motions 4 30000 35536 (10 ∷ 23 ∷ 30 ∷ 46 ∷ []) (10 ∷ 20 ∷ 35 ∷ 40 ∷ []))) (numbers (1 ∷ 2 ∷ 1 ∷ []))
-    ∷ row "the limit comes before everything" (numbers (ordered 256 (Refused 13) (Refused 5) lacking lacking ∷ ordered 255 (Refused 13) (Refused 5) lacking lacking ∷ [])) (numbers (27 ∷ 13 ∷ []))
-    ∷ row "then the first run's refusal, then the second's, and then the sizes" (numbers (ordered 0 (Refused 5) (Refused 13) lacking lacking ∷ ordered 0 (grey 3 2) (Refused 6) lacking lacking ∷ ordered 0 (grey 3 2) (grey 2 3) lacking lacking ∷ [])) (numbers (5 ∷ 6 ∷ 26 ∷ []))
+    ∷ row "the limit comes before everything" (numbers (ordered 256 (refused Refusal.Kind) (refused Refusal.RasterShort) lacking lacking ∷ ordered 255 (refused Refusal.Kind) (refused Refusal.RasterShort) lacking lacking ∷ [])) (numbers (27 ∷ 13 ∷ []))
+    ∷ row "then the first run's refusal, then the second's, and then the sizes" (numbers (ordered 0 (refused Refusal.RasterShort) (refused Refusal.Kind) lacking lacking ∷ ordered 0 (grey 3 2) (refused Refusal.RasterLong) lacking lacking ∷ ordered 0 (grey 3 2) (grey 2 3) lacking lacking ∷ [])) (numbers (5 ∷ 6 ∷ 26 ∷ []))
     ∷ row "width, height and channels" (numbers (ordered 0 (grey 3 2) (grey 4 2) [] [] ∷ ordered 0 (grey 3 2) (grey 3 1) [] [] ∷ ordered 0 (grey 3 2) (picture 3 2 3) [] [] ∷ [])) (numbers (26 ∷ 26 ∷ 26 ∷ []))
     ∷ row "room for either run comes last" (numbers (ordered 0 (grey 3 2) (grey 3 2) lacking [] ∷ ordered 0 (grey 3 2) (grey 3 2) [] lacking ∷ ordered 0 (grey 3 2) (grey 3 2) [] [] ∷ [])) (numbers (20 ∷ 20 ∷ 0 ∷ []))
     ∷ row "7/2 and 1/3 are 19/6 apart" (numbers (exact_difference 2 7 3 1 ∷ exact_difference 3 1 2 7 ∷ [])) (numbers (19 ∷ 19 ∷ []))
@@ -80,7 +83,7 @@ rows =
 
 -- every definition that an example runs through, opened by one name
 opened : Unit {0}
-unfolding count tabulate distance surely_moved surely_still motion motions exact_difference in_order row apart all counted picture grey lacking ordered
+unfolding count tabulate distance surely_moved surely_still motion motions exact_difference in_order row apart all counted picture grey refused lacking ordered
 opened = tt
 
 -- THE WORKED EXAMPLES HOLD, by computation

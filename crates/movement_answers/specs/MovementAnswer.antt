@@ -1,10 +1,10 @@
 -- What `count_movement` answers to two runs, a and b, and a limit of L levels.
-use Rattle.std.specs.Prelude.{ℕ, List}
+use Rattle.std.specs.Prelude.{ℕ, List, Result, Ok, Err}
+use Rattle.refusals.specs.declared.Refusal.{Refusal}
 use Rattle.refusals.specs.Refusal.{Test, tested}
 use Rattle.model.specs.Tolerance.{tolerance}
-use Rattle.answers.specs.declared.File.{File}
+use Rattle.answers.specs.declared.Filtered.{Filtered}
 use Rattle.answers.specs.declared.Movement.{Movement}
-use Rattle.answers.specs.declared.Movement.TheVariants.{Refused, Counts}
 use Rattle.filter_answers.specs.FileAnswer.{lent_tests}
 use Rattle.movement.specs.Order.{in_order}
 use Rattle.movement.specs.Motion.{Motion}
@@ -16,18 +16,22 @@ unfoldable pub movement_tests : ℕ → Run → Run → List Test
 movement_tests L a b = in_order L (asked a) (asked b) (lent_tests (stages a) a.lent (asked a)) (lent_tests (stages b) b.lent (asked b))
 
 -- how many bytes a picture's file has
-abbrev pub length_of : File → ℕ
-length_of (File.Refused n) = 0
-length_of (File.Picture W H c T n) = n
+abbrev pub length_of : Result Filtered Refusal → ℕ
+length_of (Err refusal) = 0
+length_of (Ok p) = p.len
 
 -- the motion of each sample of all channels between both filtered stills, in the order of their rasters
 unfoldable pub motions_between : ℕ → Run → Run → List Motion
 motions_between L a b = motions L (tolerance (stages a)) (tolerance (stages b)) (filtered a) (filtered b)
 
--- what is counted: how many of these motions are moved, still and open. Beside that both T, and the length of each output
+-- how many of some motions are moved, still and open, with both T and the length of each output
+abbrev pub counts_of : List Motion → ℕ → ℕ → ℕ → Movement
+counts_of ms T T' n = record { moved = moved_count ms; still = still_count ms; «open» = open_count ms; tolerance1 = T; tolerance2 = T'; len = n }
+
+-- what is counted of two runs
 abbrev pub counts : List Motion → Run → Run → Movement
-counts ms a b = Counts (moved_count ms) (still_count ms) (open_count ms) (tolerance (stages a)) (tolerance (stages b)) (length_of (asked a))
+counts ms a b = counts_of ms (tolerance (stages a)) (tolerance (stages b)) (length_of (asked a))
 
 -- the answer of `count_movement`: the counts, or the first refusal
-unfoldable pub movement_answer : ℕ → Run → Run → Movement
-movement_answer L a b = tested Refused (movement_tests L a b) (counts (motions_between L a b) a b)
+unfoldable pub movement_answer : ℕ → Run → Run → Result Movement Refusal
+movement_answer L a b = tested Err (movement_tests L a b) (Ok (counts (motions_between L a b) a b))

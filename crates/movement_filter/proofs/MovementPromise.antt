@@ -16,12 +16,12 @@ use Rattle.model_laws.proofs.Chain.{exact-denominator-pos}
 use Rattle.model_laws.proofs.Bounds.{tolerance-le}
 use Rattle.header_writer.specs.Heading.{header_bytes}
 use Rattle.recipe.proofs.Accepted.{recipe_sound}
-use Rattle.answers.specs.declared.File.TheVariants as File
+use Rattle.std.specs.Prelude.{Result, Ok, Err}
+use Rattle.refusals.specs.declared.Refusal.{Refusal}
 use Rattle.answers.specs.declared.Movement.{Movement}
-use Rattle.answers.specs.declared.Movement.TheVariants.{Refused}
 use Rattle.filter_answers.specs.Limits.{archive}
 use Rattle.filter_answers.specs.FileAnswer.{file_size}
-use Rattle.filter_answers.proofs.FileAccepted.{FileAccepted, file_accepted, shown as still-shown}
+use Rattle.filter_answers.proofs.FileAccepted.{file_accepted, shown as still-shown}
 use Rattle.raster_filter.specs.FilteredRaster.{filtered_raster}
 use Rattle.raster_filter.proofs.FilteredLaws.{filtered-length}
 use Rattle.file_filter.specs.FiltersFile.{FileWithin}
@@ -32,16 +32,15 @@ use Rattle.movement_laws.proofs.Truth.{motion-true}
 use Rattle.movement_laws.proofs.Counting.{counts-add-up, motions-length, motion-at}
 use Rattle.room.specs.declared.Lent.{Lent}
 use Rattle.movement_answers.specs.declared.Pair.{Pair}
-use Rattle.movement_answers.specs.declared.Plan.{Plan}
 use Rattle.movement_answers.specs.Run.{Run, run, stages, samples, file_of, filtered}
 use Rattle.movement_answers.specs.Plan.{plan_of}
 use Rattle.movement_answers.specs.MovementAnswer.{motions_between, movement_answer}
-use Rattle.movement_answers.proofs.Shown.{Shown}
+use Rattle.movement_answers.proofs.Shown.{picture, Shown}
 use Rattle.movement_runs.specs.RunsBoth.{Leaves, raster_in, Countable, counts_in, RunsBoth}
 use Rattle.movement_filter.specs.CountsMovement.{exact_sample, Promised, CountsMovement}
 
 -- a plan of two runs, for what is lent to each by its value
-pub plan_of_runs : (L : ℕ) (a b : Run) {l l' : Lent} {r : Plan} → l ≡ a.lent → l' ≡ b.lent → r ≡ plan_of L (run a.recipe a.still l) (run b.recipe b.still l') → r ≡ plan_of L a b
+pub plan_of_runs : (L : ℕ) (a b : Run) {l l' : Lent} {r : Result Pair Refusal} → l ≡ a.lent → l' ≡ b.lent → r ≡ plan_of L (run a.recipe a.still l) (run b.recipe b.still l') → r ≡ plan_of L a b
 plan_of_runs L a b e e' f = f ∙ rw (e, e')
 
 -- a sample of a picture lies in its raster
@@ -50,38 +49,35 @@ sample_fits W H c k u v bk bu bv = place_fits k (v * W + u) c (W * H) bk (rw (mu
 
 -- ---- a run that has its picture and its room
 
-module _ (r : Run) {W H c T n : ℕ} (e : file_of r ≡ File.Picture W H c T n) where
-  accepted : FileAccepted r.recipe r.still r.lent W H c T n
-  accepted = file_accepted archive r.recipe r.still r.lent e
-
+module _ (r : Run) {W H c T n : ℕ} (e : file_of r ≡ picture W H c T n) where
   tolerance-is : tolerance (stages r) ≡ T
-  tolerance-is = accepted.T-is
+  tolerance-is = (file_accepted archive r.recipe r.still r.lent e).T-is
 
   length-is : length (header_bytes W H c) + W * H * c ≡ n
   unfolding file_size
-  length-is = accepted.size_is
+  length-is = (file_accepted archive r.recipe r.still r.lent e).size_is
 
   tolerance_small : T ≤ 16711680
   tolerance_small = rw tolerance-is at (tolerance-le (stages r))
 
   raster_small : W * H * c ≤ 201326592
-  raster_small = (still-shown r.still accepted.read).raster_small
+  raster_small = (still-shown r.still (file_accepted archive r.recipe r.still r.lent e).read).raster_small
 
   file_fits : n ≤ r.lent.out
-  file_fits = omega (arith, accepted.output, accepted.size_is)
+  file_fits = let a = file_accepted archive r.recipe r.still r.lent e in omega (arith, a.output, a.size_is)
 
   -- distances from its exact samples say something
   denominator-pos : Bytes r.recipe → 0 < exact_denominator (stages r)
-  denominator-pos bytes = exact-denominator-pos (stages r) (recipe_sound r.recipe bytes accepted.suffices.accepted)
+  denominator-pos bytes = exact-denominator-pos (stages r) (recipe_sound r.recipe bytes (file_accepted archive r.recipe r.still r.lent e).suffices.accepted)
 
 -- ---- the same once the file call has run, and the output that it left
 
 record Ran (r : Run) (W H c T n : ℕ) (out out' : List ℕ) : Type 0 where
-  answer : file_of r ≡ File.Picture W H c T n
+  answer : file_of r ≡ picture W H c T n
   output : out' ≡ header_bytes W H c ++ (filtered_raster W H c (stages r) (samples r) ++ drop n out)
-  within : FileWithin (File.Picture W H c T n) (stages r) (samples r) out'
+  within : FileWithin (picture W H c T n) (stages r) (samples r) out'
 
-ran : (r : Run) {out out' : List ℕ} {W H c T n : ℕ} → file_of r ≡ File.Picture W H c T n → Leaves r out out' → Ran r W H c T n out out'
+ran : (r : Run) {out out' : List ℕ} {W H c T n : ℕ} → file_of r ≡ picture W H c T n → Leaves r out out' → Ran r W H c T n out out'
 ran r e l = record { answer = e; output = rw e at l.output; within = rw e at l.within }
 
 module _ {r : Run} {W H c T n : ℕ} {out out' : List ℕ} (h : Ran r W H c T n out out') where
@@ -132,7 +128,7 @@ module _ (L : ℕ) (a b : Run) {p : Pair} (s : Shown L a b p) where
     between = rw (s.first, s.second, tolerance-is a f.answer, tolerance-is b g.answer)
 
     -- what is counted in the outputs is the answer
-    counted_answer : counts_in L p out1' out2' ≡ movement_answer L a b
+    counted_answer : Ok (counts_in L p out1' out2') ≡ movement_answer L a b
     counted_answer = rw (raster_end f s.samples-are, raster_end g s.samples-are, ← between) (sym (s.answer-is ∙ rw (s.first, tolerance-is a f.answer, tolerance-is b g.answer)))
 
     module _ (ba : Bytes a.recipe) (bb : Bytes b.recipe) where
@@ -146,9 +142,9 @@ module _ (L : ℕ) (a b : Run) {p : Pair} (s : Shown L a b p) where
           (motion-true L p.tolerance1 (exact_denominator (stages a)) (get_or raster1 i 0) _ p.tolerance2 (exact_denominator (stages b)) (get_or raster2 i 0) _
           (denominator-pos a f.answer ba) (denominator-pos b g.answer bb) (sample_within f k u v bk bu bv) (sample_within g k u v bk bu bv))
 
-      kept_promise : Promised (movement_answer L a b) L a b out1' out2'
-      kept_promise =
-          rw (s.answer-is, s.first, tolerance-is a f.answer, tolerance-is b g.answer)
+      kept_promise : {answer : Result Movement Refusal} → answer ≡ movement_answer L a b → Promised answer L a b out1' out2'
+      kept_promise e =
+          rw (e, s.answer-is, s.first, tolerance-is a f.answer, tolerance-is b g.answer)
           (record {
             written = rw (raster-written f, raster-written g) between;
             counted = record { moved-are = refl; still-are = refl; open-are = refl };
@@ -156,27 +152,27 @@ module _ (L : ℕ) (a b : Run) {p : Pair} (s : Shown L a b p) where
             exactly = sample_true;
           })
 
-      counts_movement : {work work' : List ℕ} {rows rows' : List ℤ} {sums sums' : List ℕ} {answer : Movement} → answer ≡ counts_in L p out1' out2'
-          → CountsMovement L a b work work' rows rows' sums sums' out1 out1' out2 out2' answer
-      counts_movement {answer = answer} e =
-          let q = e ∙ counted_answer in
+      counts_movement : {work work' : List ℕ} {rows rows' : List ℤ} {sums sums' : List ℕ} {m : Movement} → m ≡ counts_in L p out1' out2'
+          → CountsMovement L a b work work' rows rows' sums sums' out1 out1' out2 out2' (Ok m)
+      counts_movement {m = m} e =
+          let q : Ok m ≡ movement_answer L a b = rw e counted_answer in
           record {
             answered = q;
-            output1 = rw (e, f.answer) f.output;
-            output2 = rw (e, g.answer) g.output;
-            promised = rw q kept_promise;
-            work-kept = rw e tt;
-            rows-kept = rw e tt;
-            sums_kept = rw e tt;
+            output1 = rw f.answer f.output;
+            output2 = rw g.answer g.output;
+            promised = kept_promise q;
+            work-kept = tt;
+            rows-kept = tt;
+            sums_kept = tt;
           }
 
   -- ---- what the call ensures
 
-  pub movement_counted : Bytes a.recipe → Bytes b.recipe → {work work' : List ℕ} {rows rows' : List ℤ} {sums sums' out1 out1' out2 out2' : List ℕ} {answer : Movement}
-      → RunsBoth L a b p out1 out1' out2 out2' answer → CountsMovement L a b work work' rows rows' sums sums' out1 out1' out2 out2' answer
+  pub movement_counted : Bytes a.recipe → Bytes b.recipe → {work work' : List ℕ} {rows rows' : List ℤ} {sums sums' out1 out1' out2 out2' : List ℕ} {m : Movement}
+      → RunsBoth L a b p out1 out1' out2 out2' m → CountsMovement L a b work work' rows rows' sums sums' out1 out1' out2 out2' (Ok m)
   movement_counted ba bb h = counts_movement (ran a s.first_fits h.first) (ran b s.second_fits h.second) ba bb h.counted
 
 -- a refusal leaves all as it was
-pub movement_refused : (L : ℕ) (a b : Run) {work : List ℕ} {rows : List ℤ} {sums out1 out2 : List ℕ} {n : ℕ} → movement_answer L a b ≡ Refused n
-    → CountsMovement L a b work work rows rows sums sums out1 out1 out2 out2 (Refused n)
+pub movement_refused : (L : ℕ) (a b : Run) {work : List ℕ} {rows : List ℤ} {sums out1 out2 : List ℕ} {r : Refusal} → movement_answer L a b ≡ Err r
+    → CountsMovement L a b work work rows rows sums sums out1 out1 out2 out2 (Err r)
 movement_refused L a b e = record { answered = sym e; output1 = refl; output2 = refl; promised = tt; work-kept = refl; rows-kept = refl; sums_kept = refl }

@@ -7,7 +7,7 @@ ghost use Rattle.movement_runs.specs.RunsBoth.{run_on};
 ghost use Rattle.movement_filter.specs.CountsMovement.{CountsMovement};
 
 use answers::Movement;
-use movement_answers::Plan;
+use refusals::Refusal;
 use room::Lent;
 
 // What is lent to a run: the work buffers, which are common, and an output of its own.
@@ -34,15 +34,13 @@ pub fn count_movement(
     sums: &mut [u32],
     out1: &mut [u8],
     out2: &mut [u8],
-) -> Movement
+) -> Result<Movement, Refusal>
     ensures { CountsMovement limit (run_on recipe1.now still1.now work.old rows.old sums.old out1.old) (run_on recipe2.now still2.now work.old rows.old sums.old out2.old) work.old work.new rows.old rows.new sums.old sums.new out1.old out1.new out2.old out2.new result }
 {
     let lent1 = lent_to(work.len(), rows.len(), sums.len(), out1.len());
     let lent2 = lent_to(work.len(), rows.len(), sums.len(), out2.len());
-    match movement_answers::planned(limit, recipe1, still1, recipe2, still2, lent1, lent2) {
-        Plan::Refused(n) => Movement::Refused(n),
-        Plan::Runs(pair) => movement_runs::run(
-            recipe1, still1, recipe2, still2, limit, pair, work, rows, sums, out1, out2,
-        ),
-    }
+    let pair = movement_answers::planned(limit, recipe1, still1, recipe2, still2, lent1, lent2)?;
+    Ok(movement_runs::run(
+        recipe1, still1, recipe2, still2, limit, pair, work, rows, sums, out1, out2,
+    ))
 }

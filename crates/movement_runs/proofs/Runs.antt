@@ -5,8 +5,10 @@ use mathlib.Core.Path.{◌≡◌, ap, ◌∙◌}
 use mathlib.Core.List.{List}
 use lib.ListN.{length, take, drop}
 use lib.IntN.{ℤ}
-use Rattle.answers.specs.declared.File.{File}
-use Rattle.answers.specs.declared.Movement.TheVariants.{Counts}
+use Rattle.std.specs.Prelude.{Result}
+use Rattle.refusals.specs.declared.Refusal.{Refusal}
+use Rattle.answers.specs.declared.Filtered.{Filtered}
+use Rattle.answers.specs.declared.Movement.{Movement}
 use Rattle.room.specs.Room.{lent}
 use Rattle.filter_answers.specs.Limits.{archive}
 use Rattle.filter_answers.specs.FileAnswer.{file_answer}
@@ -20,7 +22,7 @@ pub same-lent : {w w' r r' s s' o : ℕ} → w ≡ w' → r ≡ r' → s ≡ s' 
 same-lent e f g = rw (e, f, g)
 
 -- a run on buffers of the lengths that count
-pub leaves : (r : Run) {work work' : List ℕ} {rows rows' : List ℤ} {sums sums' out out' : List ℕ} {answer : File}
+pub leaves : (r : Run) {work work' : List ℕ} {rows rows' : List ℤ} {sums sums' out out' : List ℕ} {answer : Result Filtered Refusal}
     → FiltersFile archive r.recipe r.still work work' rows rows' sums sums' out out' answer
     → lent (length work) (length rows) (length sums) (length out) ≡ r.lent → Leaves r out out'
 leaves r f e =
@@ -30,7 +32,7 @@ leaves r f e =
 -- the k samples that end two files
 pub counts_in_lem : (L : ℕ) (p : Pair) (out1 out2 : List ℕ) {k m s o : ℕ} → k ≡ p.samples
     → Counted (motions L p.tolerance1 p.tolerance2 (take k (drop (p.len - p.samples) out1)) (take k (drop (p.len - p.samples) out2))) m s o
-    → Counts m s o p.tolerance1 p.tolerance2 p.len ≡ counts_in L p out1 out2
+    → ◌≡◌ {A = Movement} (record { moved = m; still = s; «open» = o; tolerance1 = p.tolerance1; tolerance2 = p.tolerance2; len = p.len }) (counts_in L p out1 out2)
 counts_in_lem L p out1 out2 e c = rw (c.moved-are, c.still-are, c.open-are, e)
 
 -- a part from n - m to n has m elements

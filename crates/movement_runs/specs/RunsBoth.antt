@@ -1,12 +1,12 @@
 -- What two runs of the file call over common work buffers leave in their outputs, and what is counted there.
 use Rattle.std.specs.Prelude.{ℕ, ◌-◌, ◌≤◌, ◌≡◌, List, length, take, drop, ℤ}
 use Rattle.answers.specs.declared.Movement.{Movement}
-use Rattle.answers.specs.declared.Movement.TheVariants.{Counts}
 use Rattle.room.specs.Room.{lent}
 use Rattle.file_filter.specs.FiltersFile.{file_output, FileWithin}
-use Rattle.movement.specs.Motions.{motions, moved_count, still_count, open_count}
+use Rattle.movement.specs.Motions.{motions}
 use Rattle.movement_answers.specs.declared.Pair.{Pair}
 use Rattle.movement_answers.specs.Run.{Run, run, stages, samples, file_of}
+use Rattle.movement_answers.specs.MovementAnswer.{counts_of}
 
 -- a run over these lent buffers
 abbrev pub run_on : List ℕ → List ℕ → List ℕ → List ℤ → List ℕ → List ℕ → Run
@@ -34,8 +34,7 @@ pub record Countable (L : ℕ) (p : Pair) (room1 room2 : ℕ) : Type 0 where
 -- what is counted in two outputs, whose rasters end the files
 abbrev pub counts_in : ℕ → Pair → List ℕ → List ℕ → Movement
 counts_in L p out1 out2 =
-    let ms = motions L p.tolerance1 p.tolerance2 (raster_in (p.len - p.samples) p.samples out1) (raster_in (p.len - p.samples) p.samples out2) in
-    Counts (moved_count ms) (still_count ms) (open_count ms) p.tolerance1 p.tolerance2 p.len
+    counts_of (motions L p.tolerance1 p.tolerance2 (raster_in (p.len - p.samples) p.samples out1) (raster_in (p.len - p.samples) p.samples out2)) p.tolerance1 p.tolerance2 p.len
 
 -- what both runs ensure
 pub record RunsBoth (L : ℕ) (a b : Run) (p : Pair) (out1 out1' out2 out2' : List ℕ) (answer : Movement) : Type 0 where

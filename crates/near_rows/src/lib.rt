@@ -2,7 +2,6 @@
 #![tactic(auto)]
 
 ghost use Rattle.std.specs.Prelude.{◌≡◌, ℕ, ◌+◌, ◌*◌, ◌^◌, ◌≤◌, ◌<◌, length, get_or, pos};
-ghost use Rattle.integers.specs.Divide.{clamp};
 ghost use Rattle.near_rows.specs.Near.{near_clamped};
 ghost use Rattle.near_rows.specs.Everywhere.{everywhere};
 ghost use Rattle.near_rows.specs.Places.{sample_at, Inside};
@@ -14,28 +13,13 @@ pub struct Channel {
     pub index: usize,
 }
 
-// A numerator cut to 0 to `most`.
-fn clamped(z: i64, most: u64) -> u64
-    ensures { result ≡ clamp most z }
-{
-    if z < 0 {
-        return 0;
-    }
-    let x = z as u64;
-    if x < most { x } else { most }
-}
-
-// Whether a level lies within c levels of z over n, once that is clamped.
+// Whether a level lies within c levels of z over n, once that is cut to 0 to 255.
 fn near(y: u8, z: i64, n: u64, c: u64) -> bool
     requires { (n ≤ 2 ^ 32) × (c ≤ 255) }
     ensures { result ≡ near_clamped c n y z }
 {
-    let x = clamped(z, 255 * n);
-    let level = n * y as u64;
-    if level < x {
-        return x - level <= c * n;
-    }
-    level - x <= c * n
+    let x = (z.max(0) as u64).min(255 * n);
+    (n * u64::from(y)).abs_diff(x) <= c * n
 }
 
 // Whether each of w samples, `step` apart, lies within c levels of its numerator over n.
@@ -43,16 +27,7 @@ fn all_near(received: &[u8], step: usize, numerators: &[i64], w: usize, n: u64, 
     requires { (w ≤ 8192) × (step ≤ 3) × (w ≤ length numerators.now) × ((u : ℕ) → u < w → u * step < length received.now) × (n ≤ 2 ^ 32) × (c ≤ 255) }
     ensures { result ≡ everywhere w (λ u. near_clamped c n (get_or received.now (u * step) 0) (get_or numerators.now u (pos 0))) }
 {
-    let mut at = 0;
-    let mut u = 0;
-    while u < w {
-        if !near(received[at], numerators[u], n, c) {
-            return false;
-        }
-        at += step;
-        u += 1;
-    }
-    true
+    (0..w).all(|u| near(received[u * step], numerators[u], n, c))
 }
 
 // Whether row v of a channel of a received raster of width w lies within c levels of its numerators over n.

@@ -2,41 +2,31 @@
 #![tactic(auto)]
 
 use answers::Needs;
+use refusals::Refusal;
+use std::io;
 use std::rt::Files;
 use trial::files;
 
-// A word and its number.
-fn named(rt: &impl Print, word: &[u8], n: usize) -> std::io::Result<()> {
-    printing::text(rt, word)?;
-    printing::number(rt, n as u64)
-}
-
-fn show(rt: &impl Print, answer: Needs) -> std::io::Result<()> {
+fn show(rt: &impl Print, answer: Result<Needs, Refusal>) -> io::Result<()> {
     match answer {
-        Needs::Refused(n) => printing::refusal(rt, n)?,
-        Needs::Lengths {
-            works,
-            rows,
-            sums,
-            out,
-            tolerance,
-        } => {
-            named(rt, b"work", works)?;
-            named(rt, b" rows", rows)?;
-            named(rt, b" sums", sums)?;
-            named(rt, b" out", out)?;
-            printing::text(rt, b" T")?;
-            printing::number(rt, tolerance)?;
-        }
+        Err(refusal) => println!(rt; "{refusal}"),
+        Ok(
+            Needs {
+                works,
+                rows,
+                sums,
+                out,
+                tolerance,
+            },
+        ) => println!(rt; "work {works} rows {rows} sums {sums} out {out} T {tolerance}"),
     }
-    printing::end(rt)
 }
 
 // The answer to a folder's files.
-pub fn run(rt: &(impl Files + Print), folder: &[u8]) -> std::io::Result<()> {
-    let mut recipe = io::buffer();
-    let mut still = io::large_buffer();
-    let a = files::recipe(rt, folder, &mut recipe);
-    let b = files::still(rt, folder, 0, &mut still);
-    show(rt, buffer_needs::needs(&recipe[..a], &still[..b]))
+pub fn run(rt: &(impl Files + Print), folder: &[u8]) -> io::Result<()> {
+    let mut recipe = [0u8; 4096];
+    let mut still = [0u8; 65536];
+    let recipe = files::recipe(rt, folder, &mut recipe);
+    let still = files::still(rt, folder, 0, &mut still);
+    show(rt, buffer_needs::needs(recipe, still))
 }

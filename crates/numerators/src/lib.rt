@@ -11,10 +11,7 @@ ghost use Rattle.numerators.specs.Numerator.{numerator_of};
 fn magnitude_of(value: u64) -> u64
     ensures { result ≡ nat_abs (numerator_of value) }
 {
-    if value < 274877906944 {
-        return 274877906944 - value;
-    }
-    value - 274877906944
+    value.abs_diff(274877906944)
 }
 
 // The sum of the magnitudes of the first n numerators.
@@ -23,10 +20,8 @@ pub fn magnitude(values: &[u64], n: usize) -> u64
     ensures { result ≡ sum (tabulate (λ i. nat_abs (numerator_of (get_or values.now i 0))) n) }
 {
     let mut sum = 0;
-    let mut i = 0;
-    while i < n {
+    for i in 0..n {
         sum += magnitude_of(values[i]);
-        i += 1;
     }
     sum
 }

@@ -16,6 +16,7 @@ use Rattle.model.specs.Rank.{rank_result}
 use Rattle.model.specs.Outline.{outline_result}
 use Rattle.model.specs.Stage as Model
 use Rattle.stage_values.specs.declared.Window.{Window}
+use Rattle.stage_values.specs.declared.Rank.{Rank}
 use Rattle.stage_values.specs.declared.Work.TheVariants.{Weighted, Boxed, Ranked, Outlined}
 use Rattle.stage_values.specs.declared.Stage.{Stage}
 use Rattle.stage_values.specs.Stands.{Does, Stands}
@@ -50,25 +51,25 @@ module _ (w h : ℕ) (s : Stage) where
     weighted_plane K L e = rw (e, k.border, k.value)
 
     module _ {x : Window} (e : s.work ≡ Boxed x) where
-      pub box_does : Does (Boxed x) s t.work
+      box_does : Does (Boxed x) s t.work
       box_does = rw e at k.work
 
       pub box_plane : worked frame_of (box_result x.r x.s) samples ≡ made
       unfolding Model.stage_plane Model.result worked
-      box_plane = rw (box_does.0, k.border, k.value)
+      box_plane = rw (box_does, k.border, k.value)
 
       -- its rows of sums fit
       pub box-room : {n : ℕ} → work_sums w t.work ≤ n → ring_size w x ≤ n
       unfolding work_sums
-      box-room l = rw mul_comm (rw box_does.0 at l)
+      box-room l = rw mul_comm (rw box_does at l)
 
-    module _ {x : Window} {p : ℕ} (e : s.work ≡ Ranked x p) where
-      pub rank_does : Does (Ranked x p) s t.work
+    module _ {x : Rank} (e : s.work ≡ Ranked x) where
+      rank_does : Does (Ranked x) s t.work
       rank_does = rw e at k.work
 
-      pub rank_plane : worked frame_of (rank_result x.r x.s p) samples ≡ made
+      pub rank_plane : worked frame_of (rank_result x.window.r x.window.s x.position) samples ≡ made
       unfolding Model.stage_plane Model.result worked
-      rank_plane = rw (rank_does.0, k.border, k.value)
+      rank_plane = rw (rank_does, k.border, k.value)
 
     pub outline_plane : s.work ≡ Outlined → worked frame_of outline_result samples ≡ made
     unfolding Model.stage_plane Model.result worked

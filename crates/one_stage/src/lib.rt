@@ -17,29 +17,18 @@ pub fn run_stage(s: Stage, w: usize, h: usize, work: &mut [u8], rows: &mut [i32]
     ensures { (t : Model.Stage) → Stands s t → take (h * w) work.new ≡ raster (Model.stage_plane w h t (plane_of w (take (h * w) work.old))) w h }
 {
     let n = h * w;
-    let kind = s.work;
-    let border = s.border;
-    let value = s.value;
     let frame = Frame {
         width: w,
         height: h,
-        border,
-        value,
+        border: s.border,
+        value: s.value,
     };
-    match kind {
+    match s.work {
         Work::Weighted => {
-            let across = s.across;
-            let down = s.down;
-            weighted::weighted_stage(frame, across, down, &mut work[..n], rows);
+            weighted::weighted_stage(frame, s.across, s.down, &mut work[..n], rows);
         }
-        Work::Boxed(window) => {
-            boxes::box_stage(frame, window, work, sums);
-        }
-        Work::Ranked(window, p) => {
-            ranks::rank_stage(frame, window, p, work);
-        }
-        Work::Outlined => {
-            outlines::outline_stage(frame, work);
-        }
+        Work::Boxed(window) => boxes::box_stage(frame, window, work, sums),
+        Work::Ranked(rank) => ranks::rank_stage(frame, rank, work),
+        Work::Outlined => outlines::outline_stage(frame, work),
     }
 }

@@ -6,7 +6,7 @@ ghost use Rattle.lists.specs.Tabulate.{tabulate};
 ghost use Rattle.model.specs.Outline.{edge_strength, outline_result};
 ghost use Rattle.frame.specs.Framed.{Framed, worked};
 ghost use Rattle.outlines.specs.Square.{square_at};
-ghost use Rattle.kept_planes.specs.HeldRow.{kept, Held};
+ghost use Rattle.kept_planes.specs.HeldRow.{Held};
 
 use frame::Frame;
 
@@ -25,43 +25,44 @@ fn write_row(above: &[u8], here: &[u8], below: &[u8], w: usize, dst: &mut [u8])
     requires { (w + 30 ≤ length above.now) × (w + 30 ≤ length here.now) × (w + 30 ≤ length below.now) × (w ≤ length dst.old) }
     ensures { dst.new ≡ tabulate (λ u. min (edge_strength (square_at above.now here.now below.now (14 + u))) 255) w ++ drop w dst.old }
 {
-    let mut u = 0;
-    while u < w {
+    for u in 0..w {
         let left = 14 + u;
         dst[u] = edges::level(square_of(&above[left..], &here[left..], &below[left..]));
-        u += 1;
     }
 }
 
-// All rows, into the plane at the front of `work`. The rows above and at the first are held.
-fn write_rows(frame: Frame, work: &mut [u8], above: &mut [u8], here: &mut [u8], below: &mut [u8])
-    requires { Framed frame (kept frame work.old) × (frame.width + 30 ≤ length above.old) × Held frame (kept frame work.old) 14 here.old × Held frame (kept frame work.old) 15 below.old }
-    ensures { take (frame.height * frame.width) work.new ≡ worked frame outline_result (kept frame work.old) }
+// All rows, into a plane of the frame's size. The rows above and at the first are held.
+fn write_rows(
+    frame: Frame,
+    plane: &[u8],
+    above: &mut [u8],
+    here: &mut [u8],
+    below: &mut [u8],
+    dst: &mut [u8],
+)
+    requires { Framed frame plane.now × (frame.width + 30 ≤ length above.old) × Held frame plane.now 14 here.old × Held frame plane.now 15 below.old × (length dst.old ≡ frame.height * frame.width) }
+    ensures { dst.new ≡ worked frame outline_result plane.now }
 {
     let w = frame.width;
-    let h = frame.height;
-    let mut at = 0;
-    let mut v = 0;
-    while v < h {
-        kept_planes::next_rows(frame, work, v, above, here, below);
-        write_row(above, here, below, w, &mut work[at..]);
-        at += w;
-        v += 1;
+    for v in 0..frame.height {
+        kept_planes::next_rows(frame, plane, v, above, here, below);
+        write_row(above, here, below, w, &mut dst[v * w..]);
     }
 }
 
-// An outline stage on the plane at the front of `work`. The plane behind it holds the samples before.
+// An outline stage on the plane at the front of `work`. The samples before are copied behind it first.
 pub fn outline_stage(frame: Frame, work: &mut [u8])
     requires { Framed frame (take (frame.height * frame.width) work.old) × (2 * (frame.height * frame.width) ≤ length work.old) }
     ensures { take (frame.height * frame.width) work.new ≡ worked frame outline_result (take (frame.height * frame.width) work.old) }
 {
-    let w = frame.width;
-    let h = frame.height;
+    let n = frame.height * frame.width;
     let mut above = [0u8; 8224];
     let mut here = [0u8; 8224];
     let mut below = [0u8; 8224];
-    kept_planes::keep(work, h * w);
-    kept_planes::kept_row(frame, work, 14, &mut here);
-    kept_planes::kept_row(frame, work, 15, &mut below);
-    write_rows(frame, work, &mut above, &mut here, &mut below);
+    kept_planes::keep(work, n);
+    let (dst, kept) = work.split_at_mut(n);
+    let plane = &kept[..n];
+    frame::padded_row(frame, plane, 14, &mut here);
+    frame::padded_row(frame, plane, 15, &mut below);
+    write_rows(frame, plane, &mut above, &mut here, &mut below, dst);
 }

@@ -5,21 +5,17 @@ ghost use Rattle.std.specs.Prelude.{◌≡◌};
 ghost use Rattle.picture_sizes.specs.PictureSize.{is_side, is_channels};
 
 // Whether a width or a height is one that a still may have.
+#[tactic(auto, unfolding(crate::specs::PictureSize::is_side))]
 pub fn is_side(n: usize) -> bool
     ensures { result ≡ is_side n }
 {
-    if n < 1 {
-        return false;
-    }
-    n <= 8192
+    (1..=8192).contains(&n)
 }
 
 // Grey or RGB.
+#[tactic(auto, unfolding(crate::specs::PictureSize::is_channels))]
 pub fn is_channels(n: usize) -> bool
     ensures { result ≡ is_channels n }
 {
-    if n == 1 {
-        return true;
-    }
-    n == 3
+    matches!(n, 1 | 3)
 }

@@ -1,8 +1,8 @@
 -- A supplied index as the code holds it.
-use Rattle.std.specs.Prelude.{ℕ}
-use Rattle.std.proofs.Math.Option.{Option, none, some}
+use Rattle.std.specs.Prelude.{ℕ, Option, Some, None}
+use Rattle.std.proofs.Math.Option as Math
 
--- a supplied index, below the axis's length n, or n where the border value is
-unfoldable pub place_of : ℕ → Option ℕ → ℕ
-place_of n none = n
-place_of n (some k) = k
+-- a supplied index, or none where the border value is
+unfoldable pub place_of : Math.Option ℕ → Option ℕ
+place_of Math.none = None
+place_of (Math.some k) = Some k

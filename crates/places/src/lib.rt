@@ -2,33 +2,29 @@
 #![tactic(auto)]
 
 ghost use Rattle.std.specs.Prelude.{◌≡◌, ◌*◌, ◌%◌, ◌≤◌, ◌<◌};
-ghost use Rattle.model.specs.Border.{constant, nearest, mirror, wrap, folded, supply};
+ghost use Rattle.integers.specs.Divide.{modulo};
+ghost use Rattle.model.specs.Border.{constant, closest, folded, supply};
 ghost use Rattle.stage_values.specs.Place.{offset_of};
 ghost use Rattle.stage_values.specs.Stands.{border_is};
 ghost use Rattle.places.specs.Supplied.{place_of};
 
 use stage_values::Border;
 
-// The index itself, or n outside.
-fn inside(n: usize, x: usize) -> usize
+// The index itself where it lies inside.
+fn inside(n: usize, x: usize) -> Option<usize>
     requires { x ≤ 16384 }
-    ensures { result ≡ place_of n (supply constant n (offset_of x)) }
+    ensures { result ≡ place_of (supply constant n (offset_of x)) }
 {
-    if x < 15 {
-        return n;
-    }
-    if x - 15 < n { x - 15 } else { n }
+    let u = x.checked_sub(15)?;
+    if u < n { Some(u) } else { None }
 }
 
 // The index itself, or the end of the axis that it lies beyond.
 fn closest(n: usize, x: usize) -> usize
     requires { (1 ≤ n) × (x ≤ 16384) }
-    ensures { result ≡ place_of n (supply nearest n (offset_of x)) }
+    ensures { result ≡ closest n (offset_of x) }
 {
-    if x < 15 {
-        return 0;
-    }
-    if x - 15 < n { x - 15 } else { n - 1 }
+    x.saturating_sub(15).min(n - 1)
 }
 
 // Of the indices 0 to 2n - 1 the upper half runs back.
@@ -54,7 +50,7 @@ fn repeated(n: usize, k: usize) -> usize
 // Index -1 - k reads as k does.
 fn mirrored(n: usize, x: usize) -> usize
     requires { (1 ≤ n) × (n ≤ 8192) × (x ≤ 16384) }
-    ensures { result ≡ place_of n (supply mirror n (offset_of x)) }
+    ensures { result ≡ folded n (modulo (offset_of x) (2 * n)) }
 {
     if x < 15 {
         repeated(n, 14 - x)
@@ -66,20 +62,20 @@ fn mirrored(n: usize, x: usize) -> usize
 // 15 (n - 1) is -15 and 15 n more, so the sum is x - 15 modulo n.
 fn wrapped(n: usize, x: usize) -> usize
     requires { (1 ≤ n) × (n ≤ 8192) × (x ≤ 16384) }
-    ensures { result ≡ place_of n (supply wrap n (offset_of x)) }
+    ensures { result ≡ modulo (offset_of x) n }
 {
     (x + 15 * (n - 1)) % n
 }
 
-// The index, 0 to n - 1, that is supplied at place x of an axis, or n for the border value.
-pub fn place(border: Border, n: usize, x: usize) -> usize
+// The index, 0 to n - 1, that is supplied at place x of an axis; none where the border value is.
+pub fn place(border: Border, n: usize, x: usize) -> Option<usize>
     requires { (1 ≤ n) × (n ≤ 8192) × (x ≤ 16384) }
-    ensures { result ≡ place_of n (supply (border_is border) n (offset_of x)) }
+    ensures { result ≡ place_of (supply (border_is border) n (offset_of x)) }
 {
     match border {
         Border::Constant => inside(n, x),
-        Border::Nearest => closest(n, x),
-        Border::Mirror => mirrored(n, x),
-        Border::Wrap => wrapped(n, x),
+        Border::Nearest => Some(closest(n, x)),
+        Border::Mirror => Some(mirrored(n, x)),
+        Border::Wrap => Some(wrapped(n, x)),
     }
 }

@@ -12,8 +12,8 @@ use Rattle.model.specs.Exact.{exact, exact_denominator}
 use Rattle.model.specs.Within.{Within}
 use Rattle.model.specs.Sound.{Sound, Bytes}
 use Rattle.model_laws.proofs.Chain.{within_tolerance}
-use Rattle.answers.specs.declared.Filtered.{Filtered}
-use Rattle.answers.specs.declared.Filtered.TheVariants.{Refused, Tolerance}
+use Rattle.std.specs.Prelude.{Result, Ok, Err}
+use Rattle.refusals.specs.declared.Refusal.{Refusal}
 use Rattle.recipe.specs.Recipe.{recipe_stages}
 use Rattle.recipe.proofs.Accepted.{recipe_sound}
 use Rattle.room.specs.Room.{lent}
@@ -38,12 +38,12 @@ module _ (W H : ℕ) (ts : List Stage) (sound : Sound ts) {T : ℕ} (e : toleran
 
 -- ---- what the call ensures, by its answer
 
-module _ (recipe : List ℕ) (W H : ℕ) (plane work : List ℕ) (rows : List ℤ) (sums out : List ℕ) (answer : Filtered) (e : answer ≡ plane_answer recipe W H (length plane) (lent (length work) (length rows) (length sums) (length out))) where
+module _ (recipe : List ℕ) (W H : ℕ) (plane work : List ℕ) (rows : List ℤ) (sums out : List ℕ) (answer : Result ℕ Refusal) (e : answer ≡ plane_answer recipe W H (length plane) (lent (length work) (length rows) (length sums) (length out))) where
   -- a refusal leaves all as it was
-  pub plane_refuses : {n : ℕ} → answer ≡ Refused n → FiltersPlane recipe W H plane work work rows rows sums sums out out answer
+  pub plane_refuses : {r : Refusal} → answer ≡ Err r → FiltersPlane recipe W H plane work work rows rows sums sums out out answer
   plane_refuses f = record { answered = e; output = rw f; within = rw f tt; work-kept = rw f refl; rows-kept = rw f refl; sums_kept = rw f refl }
 
-  module _ {T : ℕ} (f : answer ≡ Tolerance T) where
+  module _ {T : ℕ} (f : answer ≡ Ok T) where
     -- what an answer with T has shown
     pub plane_shown : PlaneAccepted recipe W H (length plane) (lent (length work) (length rows) (length sums) (length out)) T
     plane_shown = plane_accepted recipe W H (length plane) (lent (length work) (length rows) (length sums) (length out)) (sym e ∙ f)

@@ -7,7 +7,7 @@ ghost use Rattle.recipe.specs.Recipe.{recipe_stages};
 ghost use Rattle.room.specs.Room.{Sufficient};
 ghost use Rattle.plane_filter.specs.FiltersPlane.{FiltersPlane};
 
-use answers::Filtered;
+use refusals::Refusal;
 use room::Lent;
 
 // The plane into the work buffer, through the stages, and into the output.
@@ -40,19 +40,11 @@ pub fn filter_plane(
     rows: &mut [i32],
     sums: &mut [u32],
     out: &mut [u8],
-) -> Filtered
+) -> Result<u64, Refusal>
     ensures { FiltersPlane recipe.now w h plane.now work.old work.new rows.old rows.new sums.old sums.new out.old out.new result }
 {
-    let lent = Lent {
-        works: work.len(),
-        rows: rows.len(),
-        sums: sums.len(),
-        out: out.len(),
-    };
-    let answer = filter_answers::plane_answer(recipe, w, h, plane.len(), lent);
-    match answer {
-        Filtered::Refused(_) => {}
-        Filtered::Tolerance(_) => run(recipe, w, h, plane, work, rows, sums, out),
-    }
-    answer
+    let lent = Lent::of(work, rows, sums, out);
+    let tolerance = filter_answers::plane_answer(recipe, w, h, plane.len(), lent)?;
+    run(recipe, w, h, plane, work, rows, sums, out);
+    Ok(tolerance)
 }

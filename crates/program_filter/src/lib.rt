@@ -3,10 +3,11 @@
 
 ghost use Rattle.program_filter.specs.Program.{FiltersStill};
 
-use answers::File;
+use answers::Filtered;
+use refusals::Refusal;
 
 // Filters a still into the output's front. What is lent besides is the program's own.
-pub fn filter_still(recipe: &[u8], still: &[u8], out: &mut [u8; 65536]) -> File
+pub fn filter_still(recipe: &[u8], still: &[u8], out: &mut [u8; 65536]) -> Result<Filtered, Refusal>
     ensures { FiltersStill recipe.now still.now out.new result }
 {
     let mut work = [0u8; 32768];

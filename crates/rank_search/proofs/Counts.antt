@@ -70,16 +70,20 @@ module _ (rows seen : List ℕ) (t : ℕ → ℕ) (w r : ℕ) where
   unfolding count raster window_at
   over_none h z = sym (take-append-drop w seen) ∙ ap (λ (l : List ℕ). l ++ drop w seen) (sym (tabulate-get_or seen 0 w h) ∙ tabulate_ext _ _ w z)
 
-  pub over_more : (j at : ℕ) (l m : List ℕ) → at ≡ 15 - r + j * (w + 30) → l ≡ tabulate (over_rows j) w ++ drop w seen
-      → m ≡ tabulate (with_row l t (take (length rows - at) (drop at rows)) (2 * r + 1)) w ++ drop w l
+  -- the rows from the first sample of row j's windows on
+  abbrev rows_from : ℕ → List ℕ
+  rows_from j = take (length rows - (15 - r + j * (w + 30))) (drop (15 - r + j * (w + 30)) rows)
+
+  pub over_more : (j : ℕ) (l m : List ℕ) → l ≡ tabulate (over_rows j) w ++ drop w seen
+      → m ≡ tabulate (with_row l t (rows_from j) (2 * r + 1)) w ++ drop w l
       → m ≡ tabulate (over_rows (j + 1)) w ++ drop w seen
   unfolding raster window_at
-  over_more j at l m ea el em =
+  over_more j l m el em =
       refill (over_rows j) (over_rows (j + 1)) _ w seen l m 0 el em
       (λ u b e. rw (e, row u, add-one j) (sym (count_append (λ x. leb x (t u)) (window_at rows w r j u) (tabulate (λ i. get_or rows (15 - r + j * (w + 30) + (u + i)) 0) (2 * r + 1)))))
     where
-      row : (u : ℕ) → tabulate (λ k. get_or (take (length rows - at) (drop at rows)) (u + k) 0) (2 * r + 1) ≡ tabulate (λ i. get_or rows (15 - r + j * (w + 30) + (u + i)) 0) (2 * r + 1)
-      row u = tabulate_ext _ _ (2 * r + 1) (λ i b. rw (tail_mid at rows) (get_or-drop at rows (u + i) 0 ∙ ap (λ (k : ℕ). get_or rows (k + (u + i)) 0) ea))
+      row : (u : ℕ) → tabulate (λ k. get_or (rows_from j) (u + k) 0) (2 * r + 1) ≡ tabulate (λ i. get_or rows (15 - r + j * (w + 30) + (u + i)) 0) (2 * r + 1)
+      row u = tabulate_ext _ _ (2 * r + 1) (λ i b. rw (tail_mid (15 - r + j * (w + 30)) rows) (get_or-drop (15 - r + j * (w + 30)) rows (u + i) 0))
 
   -- at most seven rows of seven samples
   pub over_fits : (j : ℕ) (l : List ℕ) → r ≤ 3 → j ≤ 6 → l ≡ tabulate (over_rows j) w ++ drop w seen → (u : ℕ) → u < w → get_or l u 0 + (2 * r + 1) ≤ 255

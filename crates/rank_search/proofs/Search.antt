@@ -2,14 +2,15 @@
 use Prim.Native.Nat.{ℕ, ◌+◌, ◌-◌, ◌*◌, ◌≤◌, ◌<◌}
 use native.Mathlib.Nat.{le_trans, lt_of_not-le}
 use native.Mathlib.Omega.{arith}
-use mathlib.Core.Path.{◌≡◌, sym, ap, ◌∙◌}
+use mathlib.Core.Path.{◌≡◌, refl, sym, ap, ◌∙◌}
 use mathlib.Core.Bool.{Bool, true, false, not, cond}
 use mathlib.Core.List.{List, ◌++◌}
 use lib.Dec.{T, ltb, ltb→lt, nltb→le}
-use lib.ListN.{length, get_or, drop, take-append-drop}
+use lib.ListN.{length, get_or, take, drop, replicate, take-append-drop}
+use lib.Seq.{length-take-le}
 use Rattle.lists.specs.Count.{at_most}
 use Rattle.lists.specs.Tabulate.{tabulate}
-use Rattle.lists.proofs.Tabulate.{tabulate_ext, tabulate-get_or, filled_at, filled_behind}
+use Rattle.lists.proofs.Tabulate.{tabulate_ext, tabulate-get_or, tabulate_const, filled_at, filled_behind}
 use Rattle.lists.proofs.Raster.{length-raster}
 use Rattle.model.specs.Rank.{smallest}
 use Rattle.model.specs.Sound.{Bytes}
@@ -63,6 +64,10 @@ module _ (p w : ℕ) (xs : ℕ → List ℕ) where
   found-row low h m =
       sym (take-append-drop w low) ∙ ap (λ (l : List ℕ). l ++ drop w low)
       (sym (tabulate-get_or low 0 w h) ∙ tabulate_ext _ _ w (λ u b. omega (arith, (m u b).least, (m u b).most)))
+
+-- the first w of a buffer set to 0
+pub zeros_filled : (w : ℕ) (d z : List ℕ) → w ≤ length d → z ≡ replicate (length (take w d)) 0 → z ++ drop w d ≡ tabulate (λ _. 0) w ++ drop w d
+zeros_filled w d z h e = rw (e, length-take-le w d h, tabulate_const {A = ℕ} 0 w) refl
 
 -- a window of n rows has p samples, and as many of them at most 255
 module _ (rows : List ℕ) (w r n p u : ℕ) (h : p ≤ n * (2 * r + 1)) where

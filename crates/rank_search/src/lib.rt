@@ -22,10 +22,8 @@ fn tally(row: &[u8], low: &[u8], step: u8, w: usize, seen: &mut [u8])
     requires { (w ≤ length row.now) × (w ≤ length low.now) × (w ≤ length seen.old) × ((u : ℕ) → u < w → get_or low.now u 0 + step ≤ 255) × ((u : ℕ) → u < w → get_or seen.old u 0 < 255) }
     ensures { seen.new ≡ tabulate (λ u. get_or seen.old u 0 + cond (leb (get_or row.now u 0) (get_or low.now u 0 + step)) 1 0) w ++ drop w seen.old }
 {
-    let mut u = 0;
-    while u < w {
+    for u in 0..w {
         seen[u] = plus(seen[u], row[u], low[u] + step);
-        u += 1;
     }
 }
 
@@ -34,10 +32,8 @@ fn tally_row(row: &[u8], low: &[u8], step: u8, w: usize, across: usize, seen: &m
     requires { (w + across ≤ length row.now) × (w ≤ length low.now) × (w ≤ length seen.old) × ((u : ℕ) → u < w → get_or low.now u 0 + step ≤ 255) × ((u : ℕ) → u < w → get_or seen.old u 0 + across ≤ 255) }
     ensures { seen.new ≡ tabulate (λ u. get_or seen.old u 0 + at_most (get_or low.now u 0 + step) (tabulate (λ i. get_or row.now (u + i) 0) across)) w ++ drop w seen.old }
 {
-    let mut i = 0;
-    while i < across {
+    for i in 0..across {
         tally(&row[i..], low, step, w, seen);
-        i += 1;
     }
 }
 
@@ -46,13 +42,9 @@ fn tally_window(rows: &[u8], w: usize, r: usize, n: usize, low: &[u8], step: u8,
     requires { (w ≤ 8192) × (r ≤ 3) × (n ≤ 7) × (n * (w + 30) ≤ length rows.now) × (w ≤ length low.now) × (w ≤ length seen.old) × ((u : ℕ) → u < w → get_or low.now u 0 + step ≤ 255) × ((u : ℕ) → u < w → get_or seen.old u 0 ≡ 0) }
     ensures { seen.new ≡ tabulate (λ u. at_most (get_or low.now u 0 + step) (window_at rows.now w r n u)) w ++ drop w seen.old }
 {
-    let across = 2 * r + 1;
-    let mut at = 15 - r;
-    let mut j = 0;
-    while j < n {
-        tally_row(&rows[at..], low, step, w, across, seen);
-        at += w + 30;
-        j += 1;
+    for j in 0..n {
+        let at = 15 - r + j * (w + 30);
+        tally_row(&rows[at..], low, step, w, 2 * r + 1, seen);
     }
 }
 
@@ -69,10 +61,8 @@ fn raise(seen: &[u8], p: u8, half: u8, w: usize, low: &mut [u8])
     requires { (w ≤ length seen.now) × (w ≤ length low.old) × ((u : ℕ) → u < w → get_or low.old u 0 + half ≤ 255) }
     ensures { low.new ≡ tabulate (λ u. cond (ltb (get_or seen.now u 0) p) (get_or low.old u 0 + half) (get_or low.old u 0)) w ++ drop w low.old }
 {
-    let mut u = 0;
-    while u < w {
+    for u in 0..w {
         low[u] = raised(low[u], half, seen[u], p);
-        u += 1;
     }
 }
 
@@ -90,7 +80,7 @@ fn halve(
     requires { (w ≤ 8192) × (r ≤ 3) × (n ≤ 7) × (n * (w + 30) ≤ length rows.now) × (1 ≤ half) × (w ≤ length low.old) × (w ≤ length seen.old) × ((u : ℕ) → u < w → get_or low.old u 0 + half ≤ 255) }
     ensures { low.new ≡ tabulate (λ u. halved p half (window_at rows.now w r n u) (get_or low.old u 0)) w ++ drop w low.old }
 {
-    buffers::fill_front(seen, w, 0);
+    seen[..w].fill(0);
     tally_window(rows, w, r, n, low, half - 1, seen);
     raise(seen, p, half, w, low);
 }
@@ -100,7 +90,7 @@ pub fn rank_row(rows: &[u8], w: usize, r: usize, n: usize, p: u8, dst: &mut [u8]
     requires { (w ≤ 8192) × (r ≤ 3) × (n ≤ 7) × (n * (w + 30) ≤ length rows.now) × (1 ≤ p) × (p ≤ n * (2 * r + 1)) × (w ≤ length dst.old) × (w ≤ length seen.old) }
     ensures { dst.new ≡ tabulate (λ u. smallest p (window_at rows.now w r n u)) w ++ drop w dst.old }
 {
-    buffers::fill_front(dst, w, 0);
+    dst[..w].fill(0);
     let mut levels: usize = 256;
     while levels > 1 {
         let half = levels / 2;

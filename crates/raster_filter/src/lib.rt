@@ -22,11 +22,9 @@ pub fn filter_raster(
     ensures { out.new ≡ filtered_raster w h channels (recipe_stages recipe.now) raster.now ++ drop (w * h * channels) out.old }
 {
     let n = w * h;
-    let mut c = 0;
-    while c < channels {
+    for c in 0..channels {
         channels::take_channel(raster, n, channels, c, work);
         stages::run_stages(recipe, w, h, work, rows, sums);
         channels::put_channel(work, n, channels, c, out);
-        c += 1;
     }
 }

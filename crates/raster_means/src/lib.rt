@@ -9,23 +9,13 @@ ghost use Rattle.raster_means.specs.Sums.{place_sum};
 // How many samples have their sums side by side.
 const BLOCK: usize = 4096;
 
-// A sum and one sample more.
-fn plus(sum: u32, sample: u8) -> u32
-    requires { sum ≤ 2 ^ 24 }
-    ensures { result ≡ sum + sample }
-{
-    sum + sample as u32
-}
-
 // The samples of one raster on top of the sums.
 fn add_samples(sums: &mut [u32], n: usize, samples: &[u8])
     requires { (n ≤ length sums.old) × (n ≤ length samples.now) × ((u : ℕ) → u < n → get_or sums.old u 0 ≤ 2 ^ 24) }
     ensures { sums.new ≡ tabulate (λ u. get_or sums.old u 0 + get_or samples.now u 0) n ++ drop n sums.old }
 {
-    let mut u = 0;
-    while u < n {
-        sums[u] = plus(sums[u], samples[u]);
-        u += 1;
+    for u in 0..n {
+        sums[u] += u32::from(samples[u]);
     }
 }
 
@@ -34,10 +24,8 @@ fn block_sums(rasters: &[u8], size: usize, k: usize, at: usize, n: usize, sums: 
     requires { (k ≤ 65535) × (at + n ≤ size) × (k * size ≤ length rasters.now) × (n ≤ length sums.old) × ((u : ℕ) → get_or sums.old u 0 ≡ 0) }
     ensures { sums.new ≡ tabulate (λ u. place_sum rasters.now size k (at + u)) n ++ drop n sums.old }
 {
-    let mut i = 0;
-    while i < k {
+    for i in 0..k {
         add_samples(sums, n, &rasters[i * size + at..]);
-        i += 1;
     }
 }
 
@@ -47,7 +35,7 @@ fn reciprocal(k: usize) -> u64
     ensures { result ≡ (2 ^ 48 + (2 * k - 1)) / (2 * k) }
 {
     let twice = 2 * k as u64;
-    (281474976710656 + (twice - 1)) / twice
+    (1_u64 << 48).div_ceil(twice)
 }
 
 // A sum divided by k by the reciprocal: no division for each sample.
@@ -63,10 +51,8 @@ fn block_means(sums: &[u32], n: usize, k: u32, by: u64, out: &mut [u8])
     requires { (n ≤ length sums.now) × (n ≤ length out.old) × (1 ≤ k) × (k ≤ 65535) × (by ≡ (2 ^ 48 + (2 * k - 1)) / (2 * k)) × ((u : ℕ) → u < n → get_or sums.now u 0 ≤ 255 * k) }
     ensures { out.new ≡ tabulate (λ u. nearest (get_or sums.now u 0) k) n ++ drop n out.old }
 {
-    let mut u = 0;
-    while u < n {
+    for u in 0..n {
         out[u] = mean(sums[u], k, by);
-        u += 1;
     }
 }
 
@@ -75,7 +61,7 @@ fn block(rasters: &[u8], size: usize, k: usize, at: usize, n: usize, by: u64, ou
     requires { (1 ≤ k) × (k ≤ 65535) × (at + n ≤ size) × (n ≤ 4096) × (k * size ≤ length rasters.now) × (n ≤ length out.old) × (by ≡ (2 ^ 48 + (2 * k - 1)) / (2 * k)) }
     ensures { out.new ≡ tabulate (λ u. nearest (place_sum rasters.now size k (at + u)) k) n ++ drop n out.old }
 {
-    let mut sums = [0u32; 4096];
+    let mut sums = [0u32; BLOCK];
     block_sums(rasters, size, k, at, n, &mut sums);
     block_means(&sums, n, k as u32, by, out);
 }
@@ -86,10 +72,8 @@ pub fn mean_raster(rasters: &[u8], size: usize, k: usize, out: &mut [u8])
     ensures { out.new ≡ tabulate (λ j. nearest (place_sum rasters.now size k j) k) size ++ drop size out.old }
 {
     let by = reciprocal(k);
-    let mut at = 0;
-    while at < size {
-        let n = integers::smaller(BLOCK, size - at);
+    for at in (0..size).step_by(BLOCK) {
+        let n = BLOCK.min(size - at);
         block(rasters, size, k, at, n, by, &mut out[at..]);
-        at += n;
     }
 }

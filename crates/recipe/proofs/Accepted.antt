@@ -5,12 +5,12 @@ use mathlib.Core.Path.{◌≡◌, refl, sym, ap, ◌∙◌}
 use mathlib.Core.List.{List}
 use lib.ListN.{length, drop}
 use Rattle.refusals.specs.Refusal.{verdict}
-use Rattle.refusals.specs.declared.Verdict.TheVariants as Verdict
+use Rattle.std.specs.Prelude.{Ok, Err}
+use Rattle.refusals.specs.declared.Refusal.{Refusal}
 use Rattle.refusals.proofs.Passed.{AllPass, passed, all_append, refused_tests, all_pass, passed_all, between}
 use Rattle.model.specs.Sound.{Sound, Bytes}
 use Rattle.model.specs.Tolerance.{tolerance}
 use Rattle.answers.specs.declared.Recipe.{Recipe}
-use Rattle.answers.specs.declared.Recipe.TheVariants.{Refused, Stages}
 use Rattle.recipe_bytes.specs.Bytes.{at}
 use Rattle.recipe_bytes.proofs.ByteLaws.{bytes_drop}
 use Rattle.recipe_stages.proofs.StageLaws.{stage_passed}
@@ -43,26 +43,26 @@ pub record Read (b : List ℕ) (S T : ℕ) : Type 0 where
   pub stages : length (recipe_stages b) ≡ S
   pub worth : T ≡ tolerance (recipe_stages b)
 
-pub accepted : (b : List ℕ) (S T : ℕ) → recipe_of b ≡ Stages S T → Read b S T
+pub accepted : (b : List ℕ) {r : Recipe} → recipe_of b ≡ Ok r → Read b r.count r.tolerance
 unfolding recipe_of recipe_tests recipe_stages
-accepted b S T e =
-    let p = passed Refused (recipe_tests b) (Stages (at b 0) (tolerance (recipe_stages b))) (Stages S T) (λ n f. let z : ◌≡◌ {A = ℕ} 0 1 = cc in omega arith) e in
-    let a = p.1 in
-    let s : at b 0 ≡ S = cc in
-    let t : tolerance (recipe_stages b) ≡ T = cc in
+accepted b {r} e =
+    let worth : Recipe = record { count = at b 0; tolerance = tolerance (recipe_stages b) } in
+    let p = passed Err (recipe_tests b) (Ok worth) (Ok r) (λ n f. cc) e in
+    let same : worth ≡ r = cc in
+    let s = ap (λ x. x.count) same in
     let n = between 1 (at b 0) 8 p.0.1.0 in
-    record { tests = p.0; count = sym s; some = omega arith; few = omega arith; stages = stages-count (at b 0) (drop 1 b) ∙ s; worth = sym t }
+    record { tests = p.0; count = sym s; some = omega arith; few = omega arith; stages = stages-count (at b 0) (drop 1 b) ∙ s; worth = sym (ap (λ x. x.tolerance) same) }
 
 -- a recipe that was read passed its tests, and its T is the model's
-pub recipe_read : (b : List ℕ) {S T : ℕ} → recipe_of b ≡ Stages S T → (verdict (recipe_tests b) ≡ Verdict.Passed) × (tolerance (recipe_stages b) ≡ T)
-recipe_read b {S} {T} e = let r = accepted b S T e in (passed_all _ r.tests, sym r.worth)
+pub recipe_read : (b : List ℕ) {r : Recipe} → recipe_of b ≡ Ok r → (verdict (recipe_tests b) ≡ Ok tt) × (tolerance (recipe_stages b) ≡ r.tolerance)
+recipe_read b e = let r = accepted b e in (passed_all _ r.tests, sym r.worth)
 
 -- one that passes them has sound stages
-pub recipe_sound : (b : List ℕ) → Bytes b → verdict (recipe_tests b) ≡ Verdict.Passed → Sound (recipe_stages b)
+pub recipe_sound : (b : List ℕ) → Bytes b → verdict (recipe_tests b) ≡ Ok tt → Sound (recipe_stages b)
 unfolding recipe_tests recipe_stages
 recipe_sound b h e = stages_passed (at b 0) (drop 1 b) (bytes_drop 1 b h) (all_pass (recipe_tests b) e).1.1
 
 -- one that was refused was so by its tests
-pub recipe_refused : (b : List ℕ) {n : ℕ} → recipe_of b ≡ Refused n → verdict (recipe_tests b) ≡ Verdict.Refused n
+pub recipe_refused : (b : List ℕ) {n : Refusal} → recipe_of b ≡ Err n → verdict (recipe_tests b) ≡ Err n
 unfolding recipe_of
-recipe_refused b e = refused_tests Refused (λ m n f. cc) (recipe_tests b) (Stages (at b 0) (tolerance (recipe_stages b))) (λ k f. let z : ◌≡◌ {A = ℕ} 0 1 = cc in omega arith) e
+recipe_refused b e = refused_tests Err (λ m n f. cc) (recipe_tests b) (Ok (record { count = at b 0; tolerance = tolerance (recipe_stages b) })) (λ k f. cc) e

@@ -8,7 +8,7 @@ use lib.ListN.{length, drop, length-drop}
 use lib.Seq.{drop-drop}
 use borrow.Author.Tests.{leb-true}
 use Rattle.refusals.specs.Refusal.{verdict}
-use Rattle.refusals.specs.declared.Verdict.TheVariants.{Passed}
+use Rattle.std.specs.Prelude.{Ok}
 use Rattle.refusals.proofs.Passed.{AllPass, all_pass, all_append, passed_all, between}
 use Rattle.recipe_bytes.specs.Bytes.{at, there}
 use Rattle.recipe_stages.specs.StageBytes.{stage_tests, stage_length, stage_of}
@@ -23,7 +23,7 @@ pub record Walk (b : List ℕ) (S k a : ℕ) : Type 0 where
   pub left : AllPass (stages_tests (S - k) (drop a b))
 
 module _ (b : List ℕ) where
-  pub walk_start : verdict (recipe_tests b) ≡ Passed → (1 ≤ length b) × Walk b (at b 0) 0 1
+  pub walk_start : verdict (recipe_tests b) ≡ Ok tt → (1 ≤ length b) × Walk b (at b 0) 0 1
   unfolding recipe_tests there
   walk_start e =
       let g = all_pass (recipe_tests b) e in
@@ -44,7 +44,7 @@ module _ (b : List ℕ) where
     walk_near = omega (arith, w.near, w.few, h)
 
     -- the next is one that passes
-    pub walk_tests : verdict (stage_tests (drop a b)) ≡ Passed
+    pub walk_tests : verdict (stage_tests (drop a b)) ≡ Ok tt
     walk_tests = passed_all _ (all_append (stage_tests (drop a b)) _ both).0
 
     pub walk_more : (n : ℕ) → n ≡ stage_length (drop a b) → n ≤ length (drop a b) → n ≤ 8195 → Walk b S (k + 1) (a + n)

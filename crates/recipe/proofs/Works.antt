@@ -6,6 +6,7 @@ use Rattle.model.specs.Tolerance.{weighted_growth, after_stage}
 use Rattle.tolerance.proofs.Growth.{after_weighted, after_box, after_rank, after_outline}
 use Rattle.stage_values.specs.declared.Work.TheVariants.{Weighted, Boxed, Ranked, Outlined}
 use Rattle.stage_values.specs.declared.Stage.{Stage}
+use Rattle.stage_values.specs.declared.Rank.{Rank}
 use Rattle.stage_values.specs.declared.Window.{Window}
 use Rattle.stage_values.specs.Stands.{Does, Stands}
 use Rattle.stage_values.proofs.ReadyLaws.{rounded_few}
@@ -27,10 +28,10 @@ module _ (s : Stage) (t : Model.Stage) (h : Stands s t) where
         f ∙ growth-same T d.3.scaled-gain d.4.scaled-gain d.3.rounded d.4.rounded ∙ sym (after_weighted T t d.2)
 
   pub box_after : (T : ℕ) {x : Window} {units : ℕ} → s.work ≡ Boxed x → units ≡ min (T + 32768) 16711680 → units ≡ after_stage T t
-  box_after T {x} e f = let d : Does (Boxed x) s t.work = rw e at h.work in f ∙ sym (after_box T t d.0)
+  box_after T {x} e f = let d : Does (Boxed x) s t.work = rw e at h.work in f ∙ sym (after_box T t d)
 
-  pub rank_after : (T : ℕ) {x : Window} {p units : ℕ} → s.work ≡ Ranked x p → units ≡ min T 16711680 → units ≡ after_stage T t
-  rank_after T {x} {p} e f = let d : Does (Ranked x p) s t.work = rw e at h.work in f ∙ sym (after_rank T t d.0)
+  pub rank_after : (T : ℕ) {x : Rank} {units : ℕ} → s.work ≡ Ranked x → units ≡ min T 16711680 → units ≡ after_stage T t
+  rank_after T {x} e f = let d : Does (Ranked x) s t.work = rw e at h.work in f ∙ sym (after_rank T t d)
 
   pub outline_after : (T : ℕ) {units : ℕ} → s.work ≡ Outlined → units ≡ min (6 * T) 16711680 → units ≡ after_stage T t
   outline_after T e f = let d : Does Outlined s t.work = rw e at h.work in f ∙ sym (after_outline T t d)

@@ -1,7 +1,7 @@
 -- Numbers in a recipe's bytes ('Recipe bytes'): the highest byte comes first.
-use Rattle.std.specs.Prelude.{ℕ, ◌+◌, ◌*◌, Bool, cond, List, [], ◌∷◌, length, get_or, leb, ltb, ℤ, pos, ◌-ℤ◌}
-use Rattle.refusals.specs.Refusal as Refusal
-use Rattle.refusals.specs.Refusal.{Test}
+use Rattle.std.specs.Prelude.{ℕ, ◌+◌, ◌*◌, Bool, cond, List, [], ◌∷◌, length, get_or, leb, ltb, ℤ, pos, ◌-ℤ◌, Result, Ok, Err}
+use Rattle.refusals.specs.declared.Refusal.{Refusal}
+use Rattle.refusals.specs.Refusal.{Test, tested}
 use Rattle.weights.specs.Bits.{pattern}
 
 -- the byte at place k, 0 past the end
@@ -25,8 +25,12 @@ bits b k = pattern (at b k) (at b (k + 1)) (at b (k + 2)) (at b (k + 3))
 
 -- the first k bytes are there; if not, the recipe ends before a field is complete
 unfoldable pub there : ℕ → List ℕ → Test
-there k b = (leb k (length b), Refusal.cut)
+there k b = (leb k (length b), Refusal.Cut)
+
+-- the byte at place k, or the refusal of a recipe that ends before it
+unfoldable pub byte_at : ℕ → List ℕ → Result ℕ Refusal
+byte_at k b = tested Err (there (k + 1) b ∷ []) (Ok (at b k))
 
 -- a field that ends at byte k, what must hold of it, and the refusal where it does not
-abbrev pub field : List ℕ → ℕ → Bool → ℕ → List Test
+abbrev pub field : List ℕ → ℕ → Bool → Refusal → List Test
 field b k ok refusal = there k b ∷ (ok, refusal) ∷ []

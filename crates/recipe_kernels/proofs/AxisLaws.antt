@@ -10,7 +10,7 @@ use lib.Seq.{get_or-drop}
 use lib.Dec.{T}
 use lib.Signed.{◌<ℤ◌}
 use Rattle.refusals.specs.Refusal.{verdict}
-use Rattle.refusals.specs.declared.Verdict.TheVariants.{Passed}
+use Rattle.std.specs.Prelude.{Ok}
 use Rattle.refusals.proofs.Passed.{AllPass, passed_all}
 use Rattle.weights.specs.Bits.{accepted}
 use Rattle.model_laws.proofs.Binomial.{rising_tabulate}
@@ -67,7 +67,7 @@ unfolding divisor_at word
 divisor_low true k b bytes = omega arith
 divisor_low false k b bytes = omega (arith, bytes k, bytes (k + 1))
 
-pub taps_sizes : (real : Bool) (b : List ℕ) → verdict (tap_tests real b) ≡ Passed → Sizes real b
+pub taps_sizes : (real : Bool) (b : List ℕ) → verdict (tap_tests real b) ≡ Ok tt → Sizes real b
 taps_sizes real b h = sizes_known real b (passed_all (size_tests real b) (parts real b h).0)
 
 -- an axis, 0 or 1: its count, its divisor, the taps before its own, and its offsets
@@ -78,7 +78,7 @@ record OnAxis (real : Bool) (b : List ℕ) (axis : ℕ) : Type 0 where
   within : taps_before axis b + at b axis ≤ at b 0 + at b 1
   offsets : OffsetsAt (sizes_length real + taps_before axis b) (at b axis) b
 
-module _ (real : Bool) (b : List ℕ) (bytes : (i : ℕ) → at b i < 256) (h : verdict (tap_tests real b) ≡ Passed) where
+module _ (real : Bool) (b : List ℕ) (bytes : (i : ℕ) → at b i < 256) (h : verdict (tap_tests real b) ≡ Ok tt) where
   sizes : Sizes real b
   sizes = taps_sizes real b h
 

@@ -6,7 +6,7 @@ use mathlib.Core.Bool.{Bool}
 use mathlib.Core.List.{List}
 use borrow.Author.Tests.{leb-true}
 use Rattle.refusals.specs.Refusal.{verdict}
-use Rattle.refusals.specs.declared.Verdict.TheVariants.{Passed}
+use Rattle.std.specs.Prelude.{Ok}
 use Rattle.refusals.proofs.Passed.{all_pass, all_append, passed_all}
 use Rattle.model.specs.Kernel.{Kernel, Rising, magnitude, kernel}
 use Rattle.kernels.specs.Kernel.{kernel_of, Limits}
@@ -18,7 +18,7 @@ use Rattle.gain_tests.specs.Kept.{Kept}
 use Rattle.recipe_kernels.specs.Kernels.{kernel_on, gain_tests, weighted_tests}
 use Rattle.recipe_kernels.proofs.AxisLaws.{axis_rising}
 
-pub taps_part : (real : Bool) (b : List ℕ) → verdict (weighted_tests real b) ≡ Passed → verdict (tap_tests real b) ≡ Passed
+pub taps_part : (real : Bool) (b : List ℕ) → verdict (weighted_tests real b) ≡ Ok tt → verdict (tap_tests real b) ≡ Ok tt
 unfolding weighted_tests
 taps_part real b e = passed_all (tap_tests real b) (all_append (tap_tests real b) (gain_tests real b) (all_pass (weighted_tests real b) e)).0
 
@@ -36,7 +36,7 @@ module _ {offsets values : List ℕ} {n D : ℕ} where
     near = h.offsets-near;
   }
 
-module _ (real : Bool) (b : List ℕ) (e : verdict (weighted_tests real b) ≡ Passed) where
+module _ (real : Bool) (b : List ℕ) (e : verdict (weighted_tests real b) ≡ Ok tt) where
   -- no gain passes 4
   pub gain_within : (axis : ℕ) → axis ≤ 1 → magnitude (kernel_on real axis b).taps ≤ 4 * (kernel_on real axis b).divisor
   unfolding weighted_tests gain_tests gain_test
@@ -44,6 +44,6 @@ module _ (real : Bool) (b : List ℕ) (e : verdict (weighted_tests real b) ≡ P
   gain_within (suc zero) l = leb-true _ _ (all_append (tap_tests real b) (gain_tests real b) (all_pass (weighted_tests real b) e)).1.1.0
   gain_within (suc (suc k)) l = absurd (omega (arith, l))
 
-module _ (real : Bool) (b : List ℕ) (bytes : (i : ℕ) → at b i < 256) (e : verdict (weighted_tests real b) ≡ Passed) where
+module _ (real : Bool) (b : List ℕ) (bytes : (i : ℕ) → at b i < 256) (e : verdict (weighted_tests real b) ≡ Ok tt) where
   pub axis_limits : (axis : ℕ) → axis ≤ 1 → {offsets values : List ℕ} {n D : ℕ} → Holds offsets values n D (kernel_on real axis b) → Kept values n D → Limits D offsets values n
   axis_limits axis l h k = limits h k (axis_rising real b bytes (taps_part real b e) axis l) (gain_within real b e axis l)

@@ -1,13 +1,12 @@
 -- A stage's bytes ('Recipe bytes'): the three header bytes, and then the fields of its kind.
-use Rattle.std.specs.Prelude.{ℕ, ◌+◌, true, false, cond, List, [], ◌++◌, drop, eqb}
+use Rattle.std.specs.Prelude.{ℕ, ◌+◌, ◌≤◌, ◌≡◌, true, false, cond, List, [], ◌++◌, drop, eqb}
 use Rattle.refusals.specs.Refusal.{Test}
 use Rattle.model.specs.Border.{Border, constant, nearest, mirror, wrap}
 use Rattle.model.specs.Kernel.{Kernel}
 use Rattle.model.specs.Binomial.{binomial}
 use Rattle.model.specs.Stage.{Work, weighted, box, rank, outline, Stage, stage}
-use Rattle.stage_values.specs.declared.Window.{Window}
 use Rattle.stage_values.specs.declared.Work as Code
-use Rattle.stage_values.specs.declared.Work.TheVariants.{Boxed, Ranked, Outlined}
+use Rattle.stage_values.specs.declared.Work.TheVariants.{Weighted, Boxed, Ranked, Outlined}
 use Rattle.recipe_bytes.specs.Bytes.{at, word}
 use Rattle.stage_fields.specs.StageFields.{head_tests, radius_tests, position_tests}
 use Rattle.recipe_kernels.specs.Kernels.{kernel_on, weighted_tests, weighted_length, weighted_work}
@@ -50,9 +49,9 @@ stage_of b = stage (border_of (at b 1)) (at b 2) (work_of (at b 0) (drop 3 b))
 unfoldable pub kernel_for : ℕ → ℕ → List ℕ → Kernel
 kernel_for kind axis b = cond (eqb kind 3) (binomial (at b axis)) (kernel_on (eqb kind 2) axis b)
 
--- the work of a stage of kind 4 to 6, as the code holds it
-abbrev pub window_at : List ℕ → Window
-window_at b = record { r = at b 0; s = at b 1 }
-
-unfoldable pub window_of : ℕ → List ℕ → Code.Work
-window_of kind b = cond (eqb kind 4) (Boxed (window_at b)) (cond (eqb kind 5) (Ranked (window_at b) (word b 2)) Outlined)
+-- the work of a stage as the code holds it
+abbrev pub WorkFor : ℕ → List ℕ → Code.Work → Type 0
+WorkFor kind b Weighted = (1 ≤ kind) × (kind ≤ 3)
+WorkFor kind b (Boxed x) = (kind ≡ 4) × (x.r ≡ at b 0) × (x.s ≡ at b 1)
+WorkFor kind b (Ranked x) = (kind ≡ 5) × (x.window.r ≡ at b 0) × (x.window.s ≡ at b 1) × (x.position ≡ word b 2)
+WorkFor kind b Outlined = kind ≡ 6

@@ -3,83 +3,82 @@
 
 ghost use Rattle.std.specs.Prelude.{◌≡◌, ◌≤◌, length};
 ghost use Rattle.refusals.specs.Refusal.{verdict};
-ghost use Rattle.refusals.specs.declared.Verdict.TheVariants.{Passed};
 ghost use Rattle.model.specs.Stage.{stage};
 ghost use Rattle.stage_values.specs.Ready.{Ready};
 ghost use Rattle.stage_values.specs.Stands.{border_is, Stands};
-ghost use Rattle.recipe_stages.specs.StageBytes.{border_of, work_tests, work_length, work_of, stage_tests, stage_length, stage_of, kernel_for, window_of};
+ghost use Rattle.recipe_bytes.specs.Bytes.{at};
+ghost use Rattle.stage_fields.specs.Kind.{number};
+ghost use Rattle.stage_fields.specs.StageFields.{head_tests, radius_tests};
+ghost use Rattle.recipe_stages.specs.StageBytes.{border_of, work_tests, work_length, work_of, stage_tests, stage_length, stage_of, kernel_for, WorkFor};
 
-use recipe_bytes::wide;
-use refusals::Verdict;
-use stage_values::{Axis, Border, Stage, Window, Work};
+use refusals::Refusal;
+use stage_fields::Kind;
+use stage_values::{Axis, Border, Rank, Stage, Window, Work};
+
+// The kind of a stage whose header bytes pass.
+fn kind_of(part: &[u8]) -> Kind
+    requires { verdict (head_tests part.now) ≡ Ok tt }
+    ensures { number result ≡ at part.now 0 }
+{
+    Kind::try_from(part[0]).unwrap()
+}
 
 // The tests after the header bytes.
-fn work_tests(part: &[u8], kind: u8) -> Verdict
-    ensures { result ≡ verdict (work_tests kind part.now) }
+fn work_tests(part: &[u8], kind: Kind) -> Result<(), Refusal>
+    ensures { result ≡ verdict (work_tests (number kind) part.now) }
 {
-    if kind == 1 {
-        return recipe_kernels::tests(part, false);
+    match kind {
+        Kind::Ratios => recipe_kernels::tests(part, false),
+        Kind::Reals => recipe_kernels::tests(part, true),
+        Kind::Binomial | Kind::Box => stage_fields::radii(part),
+        Kind::Rank => {
+            stage_fields::radii(part)?;
+            stage_fields::position(part)
+        }
+        Kind::Outline => Ok(()),
     }
-    if kind == 2 {
-        return recipe_kernels::tests(part, true);
-    }
-    if kind == 5 {
-        return refusals::both(stage_fields::radii(part), stage_fields::position(part));
-    }
-    if kind == 6 {
-        return Verdict::Passed;
-    }
-    stage_fields::radii(part)
 }
 
 // All tests of the stage at the front of a part.
-pub fn tests(part: &[u8]) -> Verdict
+pub fn tests(part: &[u8]) -> Result<(), Refusal>
     ensures { result ≡ verdict (stage_tests part.now) }
 {
-    match stage_fields::head(part) {
-        Verdict::Refused(n) => Verdict::Refused(n),
-        Verdict::Passed => work_tests(&part[3..], part[0]),
-    }
+    stage_fields::head(part)?;
+    work_tests(&part[3..], kind_of(part))
 }
 
 // How many bytes follow the header bytes.
-fn work_length(part: &[u8], kind: u8) -> usize
-    requires { (1 ≤ kind) × (kind ≤ 6) × (verdict (work_tests kind part.now) ≡ Passed) }
-    ensures { (result ≡ work_length kind part.now) × (result ≤ length part.now) × (result ≤ 8192) }
+fn work_length(part: &[u8], kind: Kind) -> usize
+    requires { verdict (work_tests (number kind) part.now) ≡ Ok tt }
+    ensures { (result ≡ work_length (number kind) part.now) × (result ≤ length part.now) × (result ≤ 8192) }
 {
-    if kind <= 2 {
-        return recipe_kernels::length(part, kind == 2);
+    match kind {
+        Kind::Ratios => recipe_kernels::length(part, false),
+        Kind::Reals => recipe_kernels::length(part, true),
+        Kind::Binomial | Kind::Box => 2,
+        Kind::Rank => 4,
+        Kind::Outline => 0,
     }
-    if kind == 5 {
-        return 4;
-    }
-    if kind == 6 {
-        return 0;
-    }
-    2
 }
 
 // How many bytes the stage at the front of a part has: the next begins there.
 pub fn stage_length(part: &[u8]) -> usize
-    requires { verdict (stage_tests part.now) ≡ Passed }
+    requires { verdict (stage_tests part.now) ≡ Ok tt }
     ensures { (result ≡ stage_length part.now) × (result ≤ length part.now) × (result ≤ 8195) }
 {
-    3 + work_length(&part[3..], part[0])
+    3 + work_length(&part[3..], kind_of(part))
 }
 
+#[tactic(auto, unfolding(crate::specs::StageBytes::border_of))]
 fn border_of(b: u8) -> Border
     ensures { border_is result ≡ border_of b }
 {
-    if b == 0 {
-        return Border::Constant;
+    match b {
+        0 => Border::Constant,
+        1 => Border::Nearest,
+        2 => Border::Mirror,
+        _ => Border::Wrap,
     }
-    if b == 1 {
-        return Border::Nearest;
-    }
-    if b == 2 {
-        return Border::Mirror;
-    }
-    Border::Wrap
 }
 
 // An axis without taps.
@@ -93,63 +92,65 @@ fn no_axis() -> Axis {
     }
 }
 
-// An axis of a stage of weights or binomials, 0 across and 1 down, after its header bytes.
-fn axis_for(part: &[u8], kind: u8, axis: usize) -> Axis
-    requires { (1 ≤ kind) × (kind ≤ 3) × (axis ≤ 1) × (verdict (work_tests kind part.now) ≡ Passed) }
-    ensures { Ready (kernel_for kind axis part.now) result }
+// An axis of the stage of a kind, 0 across and 1 down, after its header bytes: without taps where the stage has no kernels.
+fn axis_for(part: &[u8], kind: Kind, axis: usize) -> Axis
+    requires { (axis ≤ 1) × (verdict (work_tests (number kind) part.now) ≡ Ok tt) }
+    ensures { number kind ≤ 3 → Ready (kernel_for (number kind) axis part.now) result }
 {
-    if kind == 3 {
-        return kernels::axis_of(binomials::binomial_kernel(wide(part[axis])));
+    match kind {
+        Kind::Ratios => kernels::axis_of(recipe_kernels::kernel_on(part, false, axis)),
+        Kind::Reals => kernels::axis_of(recipe_kernels::kernel_on(part, true, axis)),
+        Kind::Binomial => { kernels::axis_of(binomials::binomial_kernel(usize::from(part[axis]))) }
+        Kind::Box | Kind::Rank | Kind::Outline => no_axis(),
     }
-    kernels::axis_of(recipe_kernels::kernel_on(part, kind == 2, axis))
 }
 
-// The work of a stage without kernels on its axes: a box, a rank or an outline, after its header bytes.
-fn window_work(part: &[u8], kind: u8) -> Work
-    requires { (4 ≤ kind) × (kind ≤ 6) × (verdict (work_tests kind part.now) ≡ Passed) }
-    ensures { result ≡ window_of kind part.now }
+// Two radii that pass.
+fn window_at(part: &[u8]) -> Window
+    requires { verdict (radius_tests part.now) ≡ Ok tt }
+    ensures { (result.r ≡ at part.now 0) × (result.s ≡ at part.now 1) }
 {
-    if kind == 6 {
-        return Work::Outlined;
+    Window {
+        r: usize::from(part[0]),
+        s: usize::from(part[1]),
     }
-    let window = Window {
-        r: wide(part[0]),
-        s: wide(part[1]),
-    };
-    if kind == 4 {
-        return Work::Boxed(window);
+}
+
+// The work of the stage of a kind, after its header bytes.
+fn work_for(part: &[u8], kind: Kind) -> Work
+    requires { verdict (work_tests (number kind) part.now) ≡ Ok tt }
+    ensures { WorkFor (number kind) part.now result }
+{
+    match kind {
+        Kind::Ratios | Kind::Reals | Kind::Binomial => Work::Weighted,
+        Kind::Box => Work::Boxed(window_at(part)),
+        Kind::Rank => Work::Ranked(Rank {
+            window: window_at(part),
+            position: recipe_bytes::word_at(part, 2),
+        }),
+        Kind::Outline => Work::Outlined,
     }
-    Work::Ranked(window, recipe_bytes::word_at(part, 2))
 }
 
 // The stage of a kind, after its header bytes.
-fn stage_of(part: &[u8], kind: u8, border: Border, value: u8) -> Stage
-    requires { (1 ≤ kind) × (kind ≤ 6) × (verdict (work_tests kind part.now) ≡ Passed) }
-    ensures { Stands result (stage (border_is border) value (work_of kind part.now)) }
+fn stage_of(part: &[u8], kind: Kind, border: Border, value: u8) -> Stage
+    requires { verdict (work_tests (number kind) part.now) ≡ Ok tt }
+    ensures { Stands result (stage (border_is border) value (work_of (number kind) part.now)) }
 {
-    if kind <= 3 {
-        return Stage {
-            border,
-            value,
-            work: Work::Weighted,
-            across: axis_for(part, kind, 0),
-            down: axis_for(part, kind, 1),
-        };
-    }
     Stage {
         border,
         value,
-        work: window_work(part, kind),
-        across: no_axis(),
-        down: no_axis(),
+        work: work_for(part, kind),
+        across: axis_for(part, kind, 0),
+        down: axis_for(part, kind, 1),
     }
 }
 
 // The stage at the front of a part, by value.
 pub fn read_stage(part: &[u8]) -> Stage
-    requires { verdict (stage_tests part.now) ≡ Passed }
+    requires { verdict (stage_tests part.now) ≡ Ok tt }
     ensures { Stands result (stage_of part.now) }
 {
     let border = border_of(part[1]);
-    stage_of(&part[3..], part[0], border, part[2])
+    stage_of(&part[3..], kind_of(part), border, part[2])
 }

@@ -1,64 +1,60 @@
 // A still that is read, written and read again.
 #![tactic(auto)]
 
-ghost use Rattle.io.specs.Counts.{IsPrefixLen};
+ghost use Rattle.std.specs.Prelude.{◌≤◌, length, IfOk};
 
-use answers::{Still, Written};
+use answers::Picture;
+use refusals::Refusal;
+use std::io;
 
-fn show_read(rt: &impl Print, bytes: &[u8]) -> std::io::Result<()> {
+fn show_read(rt: &impl Print, bytes: &[u8]) -> io::Result<()> {
     match still_reader::read_still(bytes) {
-        Still::Refused(n) => printing::refusal(rt, n)?,
-        Still::Picture {
-            width,
-            height,
-            channels,
-            start,
-        } => {
-            printing::picture(rt, width, height, channels)?;
-            printing::number(rt, start as u64)?;
-        }
+        Err(refusal) => println!(rt; "{refusal}"),
+        Ok(
+            Picture {
+                width,
+                height,
+                channels,
+                start,
+            },
+        ) => println!(rt; "ok {width} {height} {channels} {start}"),
     }
-    printing::end(rt)
 }
 
-// How many bytes a still has once it is written: 0 where it was refused.
-pub fn write_again(still: &[u8], out: &mut [u8]) -> usize
-    ensures { IsPrefixLen result out.new }
+// How many bytes a still has once it is written.
+fn rewritten(still: &[u8], out: &mut [u8]) -> Result<usize, Refusal>
+    ensures { IfOk result (λ n. n ≤ length out.new) }
 {
-    let Still::Picture {
-        width,
-        height,
-        channels,
-        start,
-    } = still_reader::read_still(still)
-    else {
-        return 0;
-    };
-    if start > still.len() {
-        return 0;
-    }
-    match still_writer::write_still(width, height, channels, &still[start..], out) {
-        Written::Refused(_) => 0,
-        Written::Length(n) => n,
+    let picture = still_reader::read_still(still)?;
+    let raster = still.get(picture.start..).unwrap_or(&[]);
+    still_writer::write_still(picture.width, picture.height, picture.channels, raster, out)
+}
+
+// A still as it is written: nothing where it was refused.
+pub fn write_again<'a>(still: &[u8], out: &'a mut [u8]) -> &'a [u8] {
+    match rewritten(still, out) {
+        Ok(len) => &out[..len],
+        Err(_) => &[],
     }
 }
 
 // How many bytes were written, and their checksum, and what is read of them.
-fn show_written(rt: &impl Print, written: &[u8]) -> std::io::Result<()> {
-    printing::text(rt, b"  written")?;
-    printing::number(rt, written.len() as u64)?;
-    printing::number(rt, junk::checksum(written) as u64)?;
-    printing::text(rt, b"\n  again ")?;
+fn show_written(rt: &impl Print, written: &[u8]) -> io::Result<()> {
+    print!(rt;
+        "  written {} {}\n  again ",
+        written.len(),
+        junk::checksum(written)
+    )?;
     show_read(rt, written)
 }
 
 // What is read of a still and, where it is accepted, of the still that is written of it.
-pub fn show(rt: &impl Print, still: &[u8]) -> std::io::Result<()> {
+pub fn show(rt: &impl Print, still: &[u8]) -> io::Result<()> {
     show_read(rt, still)?;
-    let mut out = io::large_buffer();
-    let n = write_again(still, &mut out);
-    if n > 0 {
-        return show_written(rt, &out[..n]);
+    let mut out = [0u8; 65536];
+    let written = write_again(still, &mut out);
+    if written.is_empty() {
+        return Ok(());
     }
-    Ok(())
+    show_written(rt, written)
 }

@@ -1,2 +1,3 @@
 pub mod NeedLaws
+pub mod Rest
 pub mod Suffices

@@ -1,8 +1,7 @@
 -- What must be lent, and what a refusal leaves.
-use Rattle.std.specs.Prelude.{ℕ, ◌+◌, ◌*◌, ◌≤◌, ◌≡◌, Bool, true, false, List, [], ◌∷◌, leb}
-use Rattle.refusals.specs.Refusal as Refusal
+use Rattle.std.specs.Prelude.{ℕ, ◌+◌, ◌*◌, ◌≤◌, ◌≡◌, Bool, true, false, List, [], ◌∷◌, leb, Ok}
 use Rattle.refusals.specs.Refusal.{Test, verdict}
-use Rattle.refusals.specs.declared.Verdict.TheVariants.{Passed}
+use Rattle.refusals.specs.declared.Refusal.TheVariants as Refusal
 use Rattle.recipe.specs.Recipe.{recipe_tests, recipe_stages}
 use Rattle.model.specs.Stage.{Stage}
 use Rattle.table_sizes.specs.Needs.{sum_need}
@@ -20,10 +19,10 @@ needs W H ts size = lent (2 * (W * H)) (W * (H + 30)) (sum_need W ts) size
 -- each lent buffer is at least as long as is needed: what is shorter is refused with 20
 abbrev pub enough_tests : Lent → Lent → List Test
 enough_tests need l =
-    (leb need.works l.works, Refusal.room)
-    ∷ (leb need.rows l.rows, Refusal.room)
-    ∷ (leb need.sums l.sums, Refusal.room)
-    ∷ (leb need.out l.out, Refusal.room)
+    (leb need.works l.works, Refusal.Room)
+    ∷ (leb need.rows l.rows, Refusal.Room)
+    ∷ (leb need.sums l.sums, Refusal.Room)
+    ∷ (leb need.out l.out, Refusal.Room)
     ∷ []
 
 -- the tests of what is lent: all causes of refusal 20, by the one definition of needs
@@ -39,7 +38,7 @@ Kept false before after = Unit {0}
 pub record Sufficient (W H : ℕ) (recipe : List ℕ) (works rows sums : ℕ) : Type 0 where
   pub width : (1 ≤ W) × (W ≤ 8192)
   pub height : (1 ≤ H) × (H ≤ 8192)
-  pub accepted : verdict (recipe_tests recipe) ≡ Passed
+  pub accepted : verdict (recipe_tests recipe) ≡ Ok tt
   pub enough-work : (needs W H (recipe_stages recipe) 0).works ≤ works
   pub enough-rows : (needs W H (recipe_stages recipe) 0).rows ≤ rows
   pub enough-sums : (needs W H (recipe_stages recipe) 0).sums ≤ sums

@@ -3,13 +3,13 @@ use Prim.Native.Nat.{ℕ, zero, suc, ◌+◌, ◌-◌, ◌*◌, ◌/◌, ◌%◌
 use native.Mathlib.Nat.{not-suc-le-zero}
 use native.Mathlib.Omega.{arith}
 use mathlib.Core.Path.{◌≡◌, refl, sym, ap, ◌∙◌}
-use mathlib.Core.Bool.{Bool, true, false, cond}
+use mathlib.Core.Bool.{true, false, cond}
 use mathlib.Core.Logic.{⊎_elim}
 use mathlib.Core.List.{List, [], ◌∷◌, ◌++◌, append_assoc}
 use lib.ListN.{length, get_or, drop, length-append, length-drop}
 use lib.Seq.{drop_at, get_or_at}
-use lib.Dec.{ltb, eqb}
-use borrow.Author.Tests.{le-leb, ne_eqb, ltb-true, ltb-false}
+use lib.Dec.{eqb}
+use borrow.Author.Tests.{le-leb, ne_eqb}
 use Rattle.text.specs.Text.{is_space, gap, is_digit, digits, value_from, value}
 use Rattle.header_reader.specs.Header as Spec
 use Rattle.header_reader.specs.Header.{field_after, field, header_of, height_field, maximum_field, header}
@@ -19,7 +19,8 @@ use Rattle.still_reader.specs.Head.{channels_of, magic_test, header_tests, annou
 use Rattle.still_reader.specs.Read.{still_of}
 use Rattle.still_reader.proofs.Headed.{headed, read_headed, headed_read}
 use Rattle.header_writer.specs.Heading.{decimal_in, decimal, magic_line, header_bytes}
-use Rattle.answers.specs.declared.Still.TheVariants.{Picture}
+use Rattle.answers.specs.declared.Picture.{Picture}
+use Rattle.std.specs.Prelude.{Ok}
 use Rattle.picture_sizes.proofs.PictureSizeLaws.{channels_cases}
 
 -- ---- decimal digits are digits, at least one, and have their number's value
@@ -54,11 +55,7 @@ right_more ds n r = record {
 right_in : (s n : ℕ) → n < s → Right (decimal_in s n) n
 unfolding decimal_in value value_from
 right_in zero n h = absurd (not-suc-le-zero h)
-right_in (suc s) n h = go (ltb n 10) refl (λ l. right_in s (n / 10) (omega arith))
-  where
-    go : (t : Bool) → ltb n 10 ≡ t → (10 ≤ n → Right (decimal_in s (n / 10)) (n / 10)) → Right (decimal_in (suc s) n) n
-    go true e f = let l = ltb-true n 10 e in rw (e, decimal_in) (record { all = (omega arith, omega arith, tt); some = omega arith; worth = omega arith })
-    go false e f = rw (e, decimal_in) (right_more (decimal_in s (n / 10)) n (f (ltb-false n 10 e)))
+right_in (suc s) n h = grind (arith, right_in s (n / 10), right_more)
 
 right : (n : ℕ) → Right (decimal n) n
 unfolding decimal
@@ -68,7 +65,7 @@ right n = right_in (suc n) n (omega arith)
 
 is_digit_lem : (d : ℕ) → 48 ≤ d → d ≤ 57 → is_digit d ≡ true
 unfolding is_digit
-is_digit_lem d h k = rw (le-leb 48 d h, le-leb d 57 k)
+is_digit_lem d h k = grind arith
 
 digits_append : (ds : List ℕ) (b : ℕ) (rest : List ℕ) → Digits ds → is_digit b ≡ false → digits (ds ++ (b ∷ rest)) ≡ ds
 unfolding digits
@@ -155,8 +152,16 @@ magic-back : (c : ℕ) → is_channels c ≡ true → channels_of (cond (eqb c 1
 unfolding channels_of
 magic-back c e = ⊎_elim (λ f. rw f) (λ f. rw f) (channels_cases c e)
 
+-- a picture of c channels whose raster begins at `start`
+abbrev beginning : ℕ → ℕ → ℕ → ℕ → Picture
+beginning w h c start = record { width = w; height = h; channels = c; start = start }
+
+-- the picture that is written: its raster begins behind the header
+abbrev pub written_picture : ℕ → ℕ → ℕ → Picture
+written_picture w h c = record { width = w; height = h; channels = c; start = length (header_bytes w h c) }
+
 -- a whole header announces its picture
-picture-announced : (w h c n : ℕ) → is_side w ≡ true → is_side h ≡ true → announced c (whole_header w h 255 n) ≡ Picture w h c (2 + n)
+picture-announced : (w h c n : ℕ) → is_side w ≡ true → is_side h ≡ true → announced c (whole_header w h 255 n) ≡ Ok (beginning w h c (2 + n))
 unfolding announced header_tests whole_header
 picture-announced w h c n a b = rw (a, b)
 
@@ -164,14 +169,14 @@ module _ (w h c : ℕ) (raster : List ℕ) (a : is_side w ≡ true) (b : is_side
   some-channels : 1 ≤ c
   some-channels = ⊎_elim (λ f. omega arith) (λ f. omega arith) (channels_cases c d)
 
-  head-back : head_of (header_bytes w h c ++ raster) ≡ Picture w h c (length (header_bytes w h c))
+  head-back : head_of (header_bytes w h c ++ raster) ≡ Ok (written_picture w h c)
   unfolding head_of magic_test
   head-back =
       rw (header_is w h c raster, magic-back c d, le-leb 1 c some-channels, header-written w h raster)
-      (picture-announced w h c (size w h raster) a b ∙ ap (λ (n : ℕ). Picture w h c n) (sym (header-size w h c raster)))
+      (picture-announced w h c (size w h raster) a b ∙ ap (λ (n : ℕ). Ok (beginning w h c n)) (sym (header-size w h c raster)))
 
   -- it reads back with the same width, height and channels
-  pub round_trip : still_of (header_bytes w h c ++ raster) ≡ Picture w h c (length (header_bytes w h c))
+  pub round_trip : still_of (header_bytes w h c ++ raster) ≡ Ok (written_picture w h c)
   round_trip = headed_read (header_bytes w h c ++ raster) head-back (length-append (header_bytes w h c) raster ∙ rw e)
 
 -- with the same samples, and nothing after them
@@ -181,19 +186,19 @@ round_trip_samples w h c raster = drop_at (header_bytes w h c) raster (length (h
 -- ---- what is read, written again
 
 -- what a picture that was read has passed
-pub record Valid (bytes : List ℕ) (w h c start : ℕ) : Type 0 where
-  pub width : is_side w ≡ true
-  pub height : is_side h ≡ true
-  pub channels : is_channels c ≡ true
-  pub raster : length (drop start bytes) ≡ w * h * c
+pub record Valid (bytes : List ℕ) (p : Picture) : Type 0 where
+  pub width : is_side p.width ≡ true
+  pub height : is_side p.height ≡ true
+  pub channels : is_channels p.channels ≡ true
+  pub raster : length (drop p.start bytes) ≡ p.width * p.height * p.channels
 
-pub picture_valid : (bytes : List ℕ) {w h c start : ℕ} → still_of bytes ≡ Picture w h c start → Valid bytes w h c start
-picture_valid bytes {w} {h} {c} {start} e =
+pub picture_valid : (bytes : List ℕ) {p : Picture} → still_of bytes ≡ Ok p → Valid bytes p
+picture_valid bytes {p} e =
     let r = read_headed bytes e in
     let k = headed bytes r.0 in
-    record { width = k.width; height = k.height; channels = k.channels; raster = length-drop start bytes ∙ r.1 }
+    record { width = k.width; height = k.height; channels = k.channels; raster = length-drop p.start bytes ∙ r.1 }
 
 -- what `read_still` accepts, written again, reads back as the same picture
-pub written_again : (bytes : List ℕ) {w h c start : ℕ} → still_of bytes ≡ Picture w h c start
-    → still_of (header_bytes w h c ++ drop start bytes) ≡ Picture w h c (length (header_bytes w h c))
-written_again bytes {w} {h} {c} {start} e = let v = picture_valid bytes e in round_trip w h c (drop start bytes) v.width v.height v.channels v.raster
+pub written_again : (bytes : List ℕ) {p : Picture} → still_of bytes ≡ Ok p
+    → still_of (header_bytes p.width p.height p.channels ++ drop p.start bytes) ≡ Ok (written_picture p.width p.height p.channels)
+written_again bytes {p} e = let v = picture_valid bytes e in round_trip p.width p.height p.channels (drop p.start bytes) v.width v.height v.channels v.raster

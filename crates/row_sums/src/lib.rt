@@ -1,49 +1,78 @@
-// Sums along a row, on 32 bits: begun at a value, a tap's products added, and ended in 64ths.
+// Sums along a row: begun at a value, a tap's products added, and ended in 64ths.
 #![tactic(auto)]
 
-ghost use Rattle.std.specs.Prelude.{◌≡◌, ◌++◌, ℕ, ◌≤◌, ◌<◌, length, get_or, drop, pos, nat_abs, ◌+ℤ◌, ◌*ℤ◌};
+ghost use Rattle.std.specs.Prelude.{◌≡◌, ◌++◌, ℕ, ℤ, ◌^◌, ◌≤◌, ◌<◌, length, get_or, drop, pos, nat_abs, ◌+ℤ◌, ◌*ℤ◌};
 ghost use Rattle.integers.specs.Divide.{floor_div};
 ghost use Rattle.lists.specs.Tabulate.{tabulate};
 
-// The first n sums begin at a value.
-pub fn start_at(sums: &mut [i32], n: usize, value: i32)
+// A sum of weighted samples of type S. It takes a sample where both leave room, and `none` and `blank` stand for what a list doesn't hold.
+pub trait Tally<S> {
+    ghost takes: { Self → S → Type 0 };
+
+    ghost added: { Self → ℤ → S → Self };
+
+    ghost none: { Self };
+
+    ghost blank: { S };
+
+    // A sum and one tap's product more.
+    fn plus(self, weight: i32, sample: S) -> Self
+        requires { (nat_abs weight ≤ 262175) × takes self sample }
+        ensures { result ≡ added self weight sample };
+}
+
+// Samples of a plane, on 32 bits.
+impl Tally<u8> for i32 {
+    ghost takes = { λ sum sample. nat_abs sum ≤ 100000000 };
+
+    ghost added = { λ sum weight sample. sum +ℤ weight *ℤ pos sample };
+
+    ghost none = { pos 0 };
+
+    ghost blank = { 0 };
+
+    fn plus(self, weight: i32, sample: u8) -> i32 {
+        self + weight * i32::from(sample)
+    }
+}
+
+// Sums of before, on 64 bits.
+impl Tally<i32> for i64 {
+    ghost takes = { λ sum before. (nat_abs sum ≤ 2 ^ 60) × (nat_abs before ≤ 2 ^ 27) };
+
+    ghost added = { λ sum weight before. sum +ℤ weight *ℤ before };
+
+    ghost none = { pos 0 };
+
+    ghost blank = { pos 0 };
+
+    fn plus(self, weight: i32, before: i32) -> i64 {
+        self + i64::from(weight) * i64::from(before)
+    }
+}
+
+// The first n sums begin at a value: the half that rounds them, or 0.
+pub fn start_at<T: Copy>(sums: &mut [T], n: usize, value: T)
     requires { n ≤ length sums.old }
     ensures { sums.new ≡ tabulate (λ _. value) n ++ drop n sums.old }
 {
-    let mut u = 0;
-    while u < n {
+    for u in 0..n {
         sums[u] = value;
-        u += 1;
     }
-}
-
-// The first n sums begin at the half that rounds them.
-pub fn start(sums: &mut [i32], n: usize)
-    requires { n ≤ length sums.old }
-    ensures { sums.new ≡ tabulate (λ _. pos 512) n ++ drop n sums.old }
-{
-    start_at(sums, n, 512);
-}
-
-// A sum and one tap's product more.
-fn plus(sum: i32, weight: i32, sample: u8) -> i32
-    requires { (nat_abs sum ≤ 100000000) × (nat_abs weight ≤ 262175) }
-    ensures { result ≡ sum +ℤ weight *ℤ pos sample }
-{
-    sum + weight * sample as i32
 }
 
 // One tap's products along a row.
-pub fn add_tap(sums: &mut [i32], n: usize, row: &[u8], weight: i32)
-    requires { (n ≤ length sums.old) × (n ≤ length row.now) × (nat_abs weight ≤ 262175) × ((u : ℕ) → u < n → nat_abs (get_or sums.old u (pos 0)) ≤ 100000000) }
-    ensures { sums.new ≡ tabulate (λ u. get_or sums.old u (pos 0) +ℤ weight *ℤ pos (get_or row.now u 0)) n ++ drop n sums.old }
+pub fn add_tap<T: Tally<S> + Copy, S: Copy>(sums: &mut [T], n: usize, row: &[S], weight: i32)
+    requires { (n ≤ length sums.old) × (n ≤ length row.now) × (nat_abs weight ≤ 262175) × ((u : ℕ) → u < n → T.takes (get_or sums.old u T.none) (get_or row.now u T.blank)) }
+    ensures { sums.new ≡ tabulate (λ u. T.added (get_or sums.old u T.none) weight (get_or row.now u T.blank)) n ++ drop n sums.old }
 {
-    let mut u = 0;
-    while u < n {
-        sums[u] = plus(sums[u], weight, row[u]);
-        u += 1;
+    for u in 0..n {
+        sums[u] = sums[u].plus(weight, row[u]);
     }
 }
+
+// The half that rounds a sum to 64ths.
+pub const HALF: i32 = 512;
 
 // A sum in 64ths, rounded down: its half is in it.
 fn in_64ths(sum: i32) -> i32
@@ -57,9 +86,7 @@ pub fn finish(sums: &mut [i32], n: usize)
     requires { n ≤ length sums.old }
     ensures { sums.new ≡ tabulate (λ u. floor_div (get_or sums.old u (pos 0)) 1024) n ++ drop n sums.old }
 {
-    let mut u = 0;
-    while u < n {
+    for u in 0..n {
         sums[u] = in_64ths(sums[u]);
-        u += 1;
     }
 }

@@ -1,5 +1,5 @@
 -- Rows of sums that are stored part by part, and the running sums that go with them. Assumes nothing.
-use Rattle.std.proofs.Common.{◌≡◌, ℕ, zero, suc, ◌+◌, ◌-◌, ◌*◌, ◌%◌, ◌^◌, ◌<◌, ◌≤◌, ◌⊎◌, List, ◌++◌, length, get_or, take, drop, set, sym, refl, ap, ◌∙◌, ⊎_elim, append_assoc, add-zero, add_assoc, mod-eq_of_lt, arith, length-append, length-take-le, take_at}
+use Rattle.std.proofs.Common.{◌≡◌, ℕ, zero, suc, ◌+◌, ◌%◌, ◌^◌, ◌<◌, ◌≤◌, ◌⊎◌, List, ◌++◌, length, get_or, take, drop, set, sym, ◌∙◌, ⊎_elim, append_assoc, add-zero, add_assoc, mod-eq_of_lt, arith, length-append, length-take-le, take_at}
 use native.Mathlib.Nat.{add-mod-mod, mod-add-mod}
 use Rattle.integers.specs.Sum.{sum}
 use Rattle.lists.specs.Tabulate.{tabulate}

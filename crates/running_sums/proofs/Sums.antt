@@ -1,5 +1,5 @@
 -- Sums of the fronts of a list. Assumes nothing.
-use Rattle.std.proofs.Common.{◌≡◌, ℕ, zero, suc, ◌+◌, ◌<◌, ◌≤◌, List, [], ◌∷◌, length, get_or, take, drop, ap, ◌∙◌, le_of_suc-le-suc, not-suc-le-zero, add-one, arith, take-add}
+use Rattle.std.proofs.Common.{◌≡◌, ℕ, zero, suc, ◌+◌, ◌<◌, ◌≤◌, List, [], ◌∷◌, length, get_or, take, drop, le_of_suc-le-suc, not-suc-le-zero, add-one, arith, take-add}
 use Rattle.integers.specs.Sum.{sum}
 use Rattle.lists.proofs.Sums.{sum_append}
 use Rattle.running_sums.specs.Fours.{four_sum}

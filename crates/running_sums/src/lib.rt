@@ -19,7 +19,7 @@ pub struct Lanes {
 fn plus(a: u8, b: u8) -> u16
     ensures { result ≡ a + b }
 {
-    a as u16 + b as u16
+    u16::from(a) + u16::from(b)
 }
 
 // What two samples add up to, from each of the first n places on.
@@ -27,10 +27,8 @@ fn pair_sums(row: &[u8], n: usize, dst: &mut [u16])
     requires { (n + 1 ≤ length row.now) × (n ≤ length dst.old) }
     ensures { dst.new ≡ tabulate (λ x. slice_index row.now x + slice_index row.now (x + 1)) n ++ drop n dst.old }
 {
-    let mut x = 0;
-    while x < n {
+    for x in 0..n {
         dst[x] = plus(row[x], row[x + 1]);
-        x += 1;
     }
 }
 
@@ -39,10 +37,8 @@ fn join_pairs(dst: &mut [u16], n: usize)
     requires { (n + 2 ≤ length dst.old) × ((x : ℕ) → x < n + 2 → slice_index dst.old x ≤ 510) }
     ensures { dst.new ≡ tabulate (λ x. slice_index dst.old x + slice_index dst.old (x + 2)) n ++ drop n dst.old }
 {
-    let mut x = 0;
-    while x < n {
-        dst[x] = dst[x] + dst[x + 2];
-        x += 1;
+    for x in 0..n {
+        dst[x] += dst[x + 2];
     }
 }
 
@@ -60,9 +56,9 @@ fn first_lanes(row: &[u8]) -> Lanes
     requires { 3 ≤ length row.now }
     ensures { (i : ℕ) → i < 4 → lane result i ≡ sum (take i row.now) % 2 ^ 32 }
 {
-    let one = row[0] as u32;
-    let two = one + row[1] as u32;
-    let three = two + row[2] as u32;
+    let one = u32::from(row[0]);
+    let two = one + u32::from(row[1]);
+    let three = two + u32::from(row[2]);
     Lanes {
         a: 0,
         b: one,
@@ -77,10 +73,10 @@ fn next_lanes(t: Lanes, fours: &[u16]) -> Lanes
     ensures { (i : ℕ) → i < 4 → lane result i ≡ (lane t i + slice_index fours.now i) % 2 ^ 32 }
 {
     Lanes {
-        a: std::num::wrapping_add_u32(t.a, fours[0] as u32),
-        b: std::num::wrapping_add_u32(t.b, fours[1] as u32),
-        c: std::num::wrapping_add_u32(t.c, fours[2] as u32),
-        d: std::num::wrapping_add_u32(t.d, fours[3] as u32),
+        a: t.a.wrapping_add(u32::from(fours[0])),
+        b: t.b.wrapping_add(u32::from(fours[1])),
+        c: t.c.wrapping_add(u32::from(fours[2])),
+        d: t.d.wrapping_add(u32::from(fours[3])),
     }
 }
 
@@ -89,10 +85,10 @@ fn put_lanes(sums: &mut [u32], from: usize, to: usize, t: Lanes)
     requires { (from + 4 ≤ length sums.old) × (to + 4 ≤ length sums.old) }
     ensures { sums.new ≡ take to sums.old ++ tabulate (λ i. (slice_index sums.old (from + i) + lane t i) % 2 ^ 32) 4 ++ drop (to + 4) sums.old }
 {
-    let a = std::num::wrapping_add_u32(sums[from], t.a);
-    let b = std::num::wrapping_add_u32(sums[from + 1], t.b);
-    let c = std::num::wrapping_add_u32(sums[from + 2], t.c);
-    let d = std::num::wrapping_add_u32(sums[from + 3], t.d);
+    let a = sums[from].wrapping_add(t.a);
+    let b = sums[from + 1].wrapping_add(t.b);
+    let c = sums[from + 2].wrapping_add(t.c);
+    let d = sums[from + 3].wrapping_add(t.d);
     sums[to] = a;
     sums[to + 1] = b;
     sums[to + 2] = c;
@@ -105,12 +101,10 @@ fn add_blocks(sums: &mut [u32], from: usize, to: usize, n: usize, row: &[u8], fo
     ensures { (result ≡ sum (take (4 * n) row.now) % 2 ^ 32) × (sums.new ≡ take to sums.old ++ tabulate (λ x. (slice_index sums.old (from + x) + sum (take x row.now)) % 2 ^ 32) (4 * n) ++ drop (to + 4 * n) sums.old) }
 {
     let mut t = first_lanes(row);
-    let mut k = 0;
-    while k < n {
+    for k in 0..n {
         let x = 4 * k;
         put_lanes(sums, from + x, to + x, t);
         t = next_lanes(t, &fours[x..]);
-        k += 1;
     }
     t.a
 }
@@ -121,11 +115,9 @@ fn add_rest(sums: &mut [u32], from: usize, to: usize, n: usize, total: u32, row:
     ensures { sums.new ≡ take to sums.old ++ tabulate (λ x. (slice_index sums.old (from + x) + (total + sum (take x row.now))) % 2 ^ 32) n ++ drop (to + n) sums.old }
 {
     let mut running = total;
-    let mut x = 0;
-    while x < n {
-        sums[to + x] = std::num::wrapping_add_u32(sums[from + x], running);
-        running = std::num::wrapping_add_u32(running, row[x] as u32);
-        x += 1;
+    for x in 0..n {
+        sums[to + x] = sums[from + x].wrapping_add(running);
+        running = running.wrapping_add(u32::from(row[x]));
     }
 }
 

@@ -1,50 +1,44 @@
 // Prints what the calls on a background answer.
 #![tactic(auto)]
 
-use answers::{Changed, Held, Mean};
-
-// A hexadecimal digit.
-fn digit(n: u8) -> u8 {
-    if n < 10 {
-        return n % 16 + 48;
-    }
-    n % 16 + 87
-}
+use answers::{Held, Mean};
+use refusals::Refusal;
+use std::io;
 
 // Bytes as pairs of hexadecimal digits.
-fn show_hex(rt: &impl Print, bytes: &[u8]) -> std::io::Result<()> {
-    let mut i = 0;
-    while i < bytes.len() {
-        printing::text(rt, &[digit(bytes[i] / 16), digit(bytes[i] % 16)])?;
-        i += 1;
+fn show_hex(rt: &impl Print, bytes: &[u8]) -> io::Result<()> {
+    for b in bytes {
+        print!(rt; "{b:02x}")?;
     }
     Ok(())
 }
 
 // Prints what a change answers. What is held after it.
-pub fn show_change(rt: &impl Print, answer: Changed, held: Held) -> std::io::Result<Held> {
+pub fn show_change(rt: &impl Print, answer: Result<Held, Refusal>, held: Held) -> io::Result<Held> {
     match answer {
-        Changed::Refused(n) => {
-            printing::refusal(rt, n)?;
+        Err(refusal) => {
+            rt.print(refusal)?;
             Ok(held)
         }
-        Changed::Holds(now) => {
-            printing::text(rt, b"ok")?;
+        Ok(now) => {
+            rt.print("ok")?;
             Ok(now)
         }
     }
 }
 
 // Prints what a mean answers.
-pub fn show_mean(rt: &impl Print, answer: Mean, out: &[u8]) -> std::io::Result<()> {
+pub fn show_mean(
+    rt: &impl Print,
+    answer: Result<Option<Mean>, Refusal>,
+    out: &[u8],
+) -> io::Result<()> {
     match answer {
-        Mean::Refused(n) => printing::refusal(rt, n),
-        Mean::NoStills => printing::text(rt, b"none"),
-        Mean::Of { tolerance, len, .. } => {
-            printing::text(rt, b"mean")?;
-            printing::number(rt, tolerance)?;
-            printing::text(rt, b" ")?;
-            show_hex(rt, &out[..integers::smaller(len, out.len())])
+        Err(refusal) => rt.print(refusal),
+        Ok(None) => rt.print("none"),
+        Ok(Some(Mean { tolerance, len, .. })) => {
+            print!(rt; "mean {tolerance} ")?;
+            show_hex(rt, out.get(..len).unwrap_or(out))
         }
     }
 }

@@ -1,79 +1,78 @@
-// Rank stages of small windows: the rows of the window are held, and each result of a row is searched among them.
+// Rank stages of small windows: the rows that a row of windows reaches are held, one behind another, and each result is searched among them.
 #![tactic(auto)]
 
-ghost use Rattle.std.specs.Prelude.{◌≡◌, ◌++◌, ℕ, ◌+◌, ◌*◌, ◌≤◌, length, get_or, take, drop};
+ghost use Rattle.std.specs.Prelude.{◌≡◌, ◌++◌, ℕ, ◌+◌, ◌-◌, ◌*◌, ◌≤◌, ◌<◌, length, drop};
 ghost use Rattle.lists.specs.Tabulate.{tabulate};
-ghost use Rattle.model.specs.Window.{area};
 ghost use Rattle.model.specs.Rank.{rank_result};
-ghost use Rattle.frame.specs.Framed.{Framed, worked};
-ghost use Rattle.kept_planes.specs.HeldRow.{kept};
+ghost use Rattle.frame.specs.Framed.{Framed, neighbours, worked};
 ghost use Rattle.small_ranks.specs.HeldRows.{HeldRows};
 
 use frame::Frame;
-use stage_values::Window;
-
-// What lies `stride` further on, in place of the first n bytes.
-fn move_up(rows: &mut [u8], n: usize, stride: usize)
-    requires { stride + n ≤ length rows.old }
-    ensures { rows.new ≡ tabulate (λ i. get_or rows.old (stride + i) 0) n ++ drop n rows.old }
-{
-    let mut i = 0;
-    while i < n {
-        rows[i] = rows[stride + i];
-        i += 1;
-    }
-}
+use stage_values::Rank;
 
 // One row on: every row moves up by one slot, and the next is made in slot `last`. Slot 0 was at place y.
-fn push_row(frame: Frame, work: &[u8], y: usize, last: usize, rows: &mut [u8])
-    requires { Framed frame (kept frame work.now) × (y ≤ 8300) × (last ≤ 6) × ((last + 1) * (frame.width + 30) ≤ length rows.old) }
-    ensures { (k : ℕ) → HeldRows frame (kept frame work.now) y (k + 1) (last + 1) rows.old → HeldRows frame (kept frame work.now) (y + 1) k (last + 1) rows.new }
+fn push_row(frame: Frame, plane: &[u8], y: usize, last: usize, rows: &mut [u8])
+    requires { Framed frame plane.now × (y ≤ 8300) × (last ≤ 6) × ((last + 1) * (frame.width + 30) ≤ length rows.old) }
+    ensures { (k : ℕ) → HeldRows frame plane.now y (k + 1) (last + 1) rows.old → HeldRows frame plane.now (y + 1) k (last + 1) rows.new }
 {
     let stride = frame.width + 30;
     let at = last * stride;
-    move_up(rows, at, stride);
-    kept_planes::kept_row(frame, work, y + 1 + last, &mut rows[at..]);
+    rows.copy_within(stride..stride + at, 0);
+    frame::padded_row(frame, plane, y + 1 + last, &mut rows[at..]);
 }
 
-// All rows, into the plane at the front of `work`. The rows of the first window come in one by one; from its last on, where slot 0 was at place `first`, every
-// row gives a row of results.
-fn write_rows(
-    frame: Frame,
-    r: usize,
-    s: usize,
-    p: u8,
-    work: &mut [u8],
-    rows: &mut [u8],
-    seen: &mut [u8],
-)
-    requires { Framed frame (kept frame work.old) × (r ≤ 3) × (s ≤ 3) × (1 ≤ p) × (p ≤ area r s) × ((2 * s + 1) * (frame.width + 30) ≤ length rows.old) × (frame.width ≤ length seen.old) }
-    ensures { take (frame.height * frame.width) work.new ≡ worked frame (rank_result r s p) (kept frame work.old) }
+// The rows of the first windows but their last, one by one, in slots 1 to 2s.
+pub fn first_rows(frame: Frame, s: usize, plane: &[u8], rows: &mut [u8])
+    requires { Framed frame plane.now × (s ≤ 3) × ((2 * s + 1) * (frame.width + 30) ≤ length rows.old) }
+    ensures { HeldRows frame plane.now (14 - s) 1 (2 * s + 1) rows.new }
 {
-    let w = frame.width;
     let last = 2 * s;
     let first = 14 - s;
-    let end = first + frame.height;
-    let mut at = 0;
-    let mut y = first - last;
-    while y < end {
-        push_row(frame, work, y, last, rows);
-        y += 1;
-        if first < y {
-            rank_search::rank_row(rows, w, r, last + 1, p, &mut work[at..], seen);
-            at += w;
-        }
+    for y in first - last..first {
+        push_row(frame, plane, y, last, rows);
     }
 }
 
-// A rank stage of a small window, from the plane that is kept in `work`, into the one at its front.
-pub fn rank_rows(frame: Frame, window: Window, p: usize, work: &mut [u8])
-    requires { Framed frame (kept frame work.old) × (window.r ≤ 3) × (window.s ≤ 3) × (1 ≤ p) × (p ≤ area window.r window.s) }
-    ensures { take (frame.height * frame.width) work.new ≡ worked frame (rank_result window.r window.s p) (kept frame work.old) }
+// Row v of a rank stage of a small window, into the front of `dst`: the last row of its windows comes in, and the results are searched among all of them.
+pub fn rank_row(
+    frame: Frame,
+    rank: Rank,
+    v: usize,
+    plane: &[u8],
+    rows: &mut [u8],
+    seen: &mut [u8],
+    dst: &mut [u8],
+)
+    requires { Framed frame plane.now × (rank.window.r ≤ 3) × (rank.window.s ≤ 3) × (v < frame.height) × ((2 * rank.window.s + 1) * (frame.width + 30) ≤ length rows.old) × (frame.width ≤ length seen.old) × (frame.width ≤ length dst.old) × HeldRows frame plane.now (14 - rank.window.s + v) 1 (2 * rank.window.s + 1) rows.old }
+    ensures { (dst.new ≡ tabulate (λ u. rank_result rank.window.r rank.window.s rank.position (neighbours frame plane.now u v)) frame.width ++ drop frame.width dst.old) × HeldRows frame plane.now (14 - rank.window.s + (v + 1)) 1 (2 * rank.window.s + 1) rows.new }
 {
+    let w = frame.width;
+    let r = rank.window.r;
+    let s = rank.window.s;
+    let p = rank.position as u8;
+    push_row(frame, plane, 14 - s + v, 2 * s, rows);
+    rank_search::rank_row(rows, w, r, 2 * s + 1, p, dst, seen);
+}
+
+// A rank stage of a small window on a plane, into another one.
+pub fn rank_rows(frame: Frame, rank: Rank, plane: &[u8], dst: &mut [u8])
+    requires { Framed frame plane.now × (rank.window.r ≤ 3) × (rank.window.s ≤ 3) × (length dst.old ≡ frame.height * frame.width) }
+    ensures { dst.new ≡ worked frame (rank_result rank.window.r rank.window.s rank.position) plane.now }
+{
+    let w = frame.width;
     // seven rows of 8,192 samples, with 15 more on each side
     let mut rows = [0u8; 57554];
     let mut seen = [0u8; 8192];
-    write_rows(
-        frame, window.r, window.s, p as u8, work, &mut rows, &mut seen,
-    );
+    first_rows(frame, rank.window.s, plane, &mut rows);
+    for v in 0..frame.height {
+        rank_row(
+            frame,
+            rank,
+            v,
+            plane,
+            &mut rows,
+            &mut seen,
+            &mut dst[v * w..],
+        );
+    }
 }

@@ -22,12 +22,10 @@ pub fn remainders(values: &[u64], n: usize, divisor: u64) -> Leftovers
 {
     let mut rest = [0u64; 31];
     let mut rounded = 0;
-    let mut i = 0;
-    while i < n {
+    for i in 0..n {
         let left = numerators::raised(values[i], divisor) % divisor;
         rest[i] = left;
-        rounded += bit(0 < left);
-        i += 1;
+        rounded += usize::from(0 < left);
     }
     Leftovers { rest, rounded }
 }
@@ -37,10 +35,8 @@ fn sum_of(rest: &[u64], n: usize, divisor: u64) -> u64
     ensures { result ≡ sum (tabulate (λ i. get_or rest.now i 0) n) }
 {
     let mut sum = 0;
-    let mut i = 0;
-    while i < n {
+    for i in 0..n {
         sum += rest[i];
-        i += 1;
     }
     sum
 }
@@ -53,22 +49,14 @@ pub fn lacking_units(rest: &[u64], n: usize, divisor: u64) -> u64
     (2 * sum_of(rest, n, divisor) + divisor) / (2 * divisor)
 }
 
-fn bit(b: bool) -> usize
-    ensures { (result ≤ 1) × (result ≡ cond b 1 0) }
-{
-    if b { 1 } else { 0 }
-}
-
 // How many of the first n taps come before tap i.
 fn ahead(rest: &[u64], offsets: &[u8], n: usize, i: usize) -> usize
     requires { (n ≤ 31) × (i < n) × (n ≤ length rest.now) × (n ≤ length offsets.now) }
     ensures { result ≡ count (λ j. before (get_or rest.now j 0) (get_or offsets.now j 0) (get_or rest.now i 0) (get_or offsets.now i 0)) (tabulate (λ j. j) n) }
 {
     let mut found = 0;
-    let mut j = 0;
-    while j < n {
-        found += bit(unit_order::comes_before(rest, offsets, j, i));
-        j += 1;
+    for j in 0..n {
+        found += usize::from(unit_order::comes_before(rest, offsets, j, i));
     }
     found
 }
@@ -78,8 +66,5 @@ pub fn unit_of(rest: &[u64], offsets: &[u8], n: usize, i: usize, lacking: u64) -
     requires { (n ≤ 31) × (i < n) × (n ≤ length rest.now) × (n ≤ length offsets.now) }
     ensures { (result ≤ 1) × (result ≡ cond (ltb (count (λ j. before (get_or rest.now j 0) (get_or offsets.now j 0) (get_or rest.now i 0) (get_or offsets.now i 0)) (tabulate (λ j. j) n)) lacking) 1 0) }
 {
-    if (ahead(rest, offsets, n, i) as u64) < lacking {
-        return 1;
-    }
-    0
+    u64::from((ahead(rest, offsets, n, i) as u64) < lacking)
 }

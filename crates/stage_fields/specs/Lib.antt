@@ -1,2 +1,3 @@
--- The fields that stages share, definitions only.
+-- The kinds of stages, and the fields that stages share, definitions only.
+pub mod Kind
 pub mod StageFields

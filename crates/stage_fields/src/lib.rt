@@ -1,78 +1,92 @@
-// The tests of the fields that stages share: the three header bytes, radii, and a position. The first takes a stage's bytes, the others what follows the header bytes.
+// The kinds of stages, and the tests of the fields that stages share: the three header bytes, radii, and a position. The first takes a stage's bytes, the others what follows the header bytes.
 #![tactic(auto)]
 
-ghost use Rattle.std.specs.Prelude.{◌≡◌};
+ghost use Rattle.std.specs.Prelude.{◌≡◌, ◌+◌, ◌<◌, leb};
 ghost use Rattle.refusals.specs.Refusal.{verdict};
+ghost use Rattle.recipe_bytes.specs.Bytes.{at, field};
 ghost use Rattle.stage_fields.specs.StageFields.{head_tests, radius_tests, position_tests};
+ghost use Rattle.stage_fields.specs.Kind.{KindOf};
 
-use recipe_bytes::{wide, word_at};
-use refusals::Verdict;
+use recipe_bytes::{byte_at, word_at};
+use refusals::Refusal;
+
+// What a stage is, each with its number in a recipe: two kinds of weights, and four others.
+#[derive(Clone, Copy, Debug, PartialEq, Eq)]
+pub enum Kind {
+    Ratios = 1,
+    Reals = 2,
+    Binomial = 3,
+    Box = 4,
+    Rank = 5,
+    Outline = 6,
+}
+
+impl TryFrom<u8> for Kind {
+    type Error = Refusal;
+
+    ghost try_from_gives = { KindOf };
+
+    fn try_from(number: u8) -> Result<Kind, Refusal> {
+        match number {
+            1 => Ok(Kind::Ratios),
+            2 => Ok(Kind::Reals),
+            3 => Ok(Kind::Binomial),
+            4 => Ok(Kind::Box),
+            5 => Ok(Kind::Rank),
+            6 => Ok(Kind::Outline),
+            _ => Err(Refusal::Kind),
+        }
+    }
+}
 
 // Kind, border and border value.
-pub fn head(part: &[u8]) -> Verdict
+pub fn head(part: &[u8]) -> Result<(), Refusal>
     ensures { result ≡ verdict (head_tests part.now) }
 {
-    if part.len() < 1 {
-        return Verdict::Refused(refusals::CUT);
+    Kind::try_from(byte_at(part, 0)?)?;
+    let border = byte_at(part, 1)?;
+    if 3 < border {
+        return Err(Refusal::Kind);
     }
-    if part[0] < 1 {
-        return Verdict::Refused(refusals::KIND);
+    let value = byte_at(part, 2)?;
+    if border != 0 && value != 0 {
+        return Err(Refusal::Kind);
     }
-    if 6 < part[0] {
-        return Verdict::Refused(refusals::KIND);
+    Ok(())
+}
+
+// The radius at byte k.
+#[tactic(auto, using(recipe_bytes::proofs::ByteLaws::byte_read, recipe_bytes::proofs::ByteLaws::field_read))]
+fn radius_at(part: &[u8], k: usize) -> Result<(), Refusal>
+    requires { k < 2 }
+    ensures { result ≡ verdict (field part.now (k + 1) (leb (at part.now k) 15) Refusal.Count) }
+{
+    if 15 < byte_at(part, k)? {
+        return Err(Refusal::Count);
     }
-    if part.len() < 2 {
-        return Verdict::Refused(refusals::CUT);
-    }
-    if 3 < part[1] {
-        return Verdict::Refused(refusals::KIND);
-    }
-    if part.len() < 3 {
-        return Verdict::Refused(refusals::CUT);
-    }
-    if part[1] == 0 {
-        return Verdict::Passed;
-    }
-    if part[2] == 0 {
-        return Verdict::Passed;
-    }
-    Verdict::Refused(refusals::KIND)
+    Ok(())
 }
 
 // Two radii.
-pub fn radii(part: &[u8]) -> Verdict
+pub fn radii(part: &[u8]) -> Result<(), Refusal>
     ensures { result ≡ verdict (radius_tests part.now) }
 {
-    if part.len() < 1 {
-        return Verdict::Refused(refusals::CUT);
-    }
-    if 15 < part[0] {
-        return Verdict::Refused(refusals::COUNT);
-    }
-    if part.len() < 2 {
-        return Verdict::Refused(refusals::CUT);
-    }
-    if 15 < part[1] {
-        return Verdict::Refused(refusals::COUNT);
-    }
-    Verdict::Passed
+    radius_at(part, 0)?;
+    radius_at(part, 1)
 }
 
 // The position, after two radii.
-pub fn position(part: &[u8]) -> Verdict
+#[tactic(auto, unfolding(crate::specs::StageFields::position_tests, refusals::specs::Refusal::verdict, recipe_bytes::specs::Bytes::there, model::specs::Window::area))]
+pub fn position(part: &[u8]) -> Result<(), Refusal>
     ensures { result ≡ verdict (position_tests part.now) }
 {
     if part.len() < 4 {
-        return Verdict::Refused(refusals::CUT);
+        return Err(Refusal::Cut);
     }
     let p = word_at(part, 2);
-    if p < 1 {
-        return Verdict::Refused(refusals::POSITION);
+    let area = (2 * usize::from(part[0]) + 1) * (2 * usize::from(part[1]) + 1);
+    if p < 1 || area < p {
+        return Err(Refusal::Position);
     }
-    let r = wide(part[0]);
-    let s = wide(part[1]);
-    if (2 * r + 1) * (2 * s + 1) < p {
-        return Verdict::Refused(refusals::POSITION);
-    }
-    Verdict::Passed
+    Ok(())
 }

@@ -1,8 +1,7 @@
 -- A stage as the code holds it, and the model's stage that it stands for.
-use Rattle.std.specs.Prelude.{◌≤◌, ◌≡◌}
+use Rattle.std.specs.Prelude.{◌≡◌}
 use Rattle.model.specs.Border as Edge
 use Rattle.model.specs.Kernel.{Kernel}
-use Rattle.model.specs.Window.{area}
 use Rattle.model.specs.Stage as Model
 use Rattle.stage_values.specs.declared.Border.{Border}
 use Rattle.stage_values.specs.declared.Border.TheVariants.{Constant, Nearest, Mirror, Wrap}
@@ -18,11 +17,11 @@ border_is Nearest = Edge.nearest
 border_is Mirror = Edge.mirror
 border_is Wrap = Edge.wrap
 
--- what a stage's work is, with radii of at most 15 and a position from 1 to the area
+-- what a stage's work is: the limits of radii and positions are those of the types
 abbrev pub Does : Work → Stage → Model.Work → Type 0
 Does Weighted s w = (K : Kernel) × (L : Kernel) × (w ≡ Model.weighted K L) × Ready K s.across × Ready L s.down
-Does (Boxed x) s w = (w ≡ Model.box x.r x.s) × (x.r ≤ 15) × (x.s ≤ 15)
-Does (Ranked x p) s w = (w ≡ Model.rank x.r x.s p) × (x.r ≤ 15) × (x.s ≤ 15) × (1 ≤ p) × (p ≤ area x.r x.s)
+Does (Boxed x) s w = w ≡ Model.box x.r x.s
+Does (Ranked x) s w = w ≡ Model.rank x.window.r x.window.s x.position
 Does Outlined s w = w ≡ Model.outline
 
 -- border, border value and work are those of the model's stage

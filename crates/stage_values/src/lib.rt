@@ -1,6 +1,10 @@
 // What a stage on a plane goes by, as values: no word here of the bytes that they are read from.
 #![tactic(auto)]
 
+ghost use Rattle.std.specs.Prelude.{ℕ, ◌≤◌, ◌<◌, get_or};
+ghost use Rattle.model.specs.Window.{area};
+ghost use Rattle.stage_values.specs.Size.{held_size};
+
 // What the frame rule supplies outside.
 #[derive(Clone, Copy)]
 pub enum Border {
@@ -10,23 +14,33 @@ pub enum Border {
     Wrap,
 }
 
-// A window's radii, r across and s down.
+// A window's radii, r across and s down: no offset reaches further than 15.
 #[derive(Clone, Copy)]
 pub struct Window {
     pub r: usize,
     pub s: usize,
+    ghost near: { (r ≤ 15) × (s ≤ 15) },
 }
 
-// What a stage does to each neighbourhood; a rank takes its window's p-th smallest sample.
+// A window, and a position among its samples in order, from 1 on.
+#[derive(Clone, Copy)]
+pub struct Rank {
+    pub window: Window,
+    pub position: usize,
+    ghost inside: { (1 ≤ position) × (position ≤ area window.r window.s) },
+}
+
+// What a stage does to each neighbourhood; a rank takes the sample at its position.
 #[derive(Clone, Copy)]
 pub enum Work {
     Weighted,
     Boxed(Window),
-    Ranked(Window, usize),
+    Ranked(Rank),
     Outlined,
 }
 
 // The taps of one axis: offsets 15 too large, weights in 65,536ths and how many of them are rounded, and 65,536 times the gain, rounded up.
+// Few taps, offsets within reach, and weights of a gain of about 4 at most.
 #[derive(Clone, Copy)]
 pub struct Axis {
     pub offsets: [u8; 31],
@@ -34,6 +48,9 @@ pub struct Axis {
     pub len: usize,
     pub rounded: usize,
     pub gain: u64,
+    ghost few: { len ≤ 31 },
+    ghost near: { (i : ℕ) → i < len → get_or offsets i 0 ≤ 30 },
+    ghost size: { held_size weights len ≤ 262175 },
 }
 
 // A stage, with both axes where its work is weighted.

@@ -7,7 +7,8 @@ use lib.ListN.{drop, take}
 use Rattle.text.proofs.Front.{drop_front}
 use Rattle.header_reader.specs.Header.{header}
 use Rattle.header_reader.proofs.Front.{byte_front, header_front}
-use Rattle.answers.specs.declared.Still.TheVariants.{Picture}
+use Rattle.answers.specs.declared.Picture.{Picture}
+use Rattle.std.specs.Prelude.{Ok}
 use Rattle.still_reader.specs.Head.{magic_test, head_of}
 use Rattle.still_reader.proofs.Headed.{headed}
 
@@ -18,5 +19,5 @@ head_front n xs ys h e =
     let same-header = header_front (n - 2) (drop 2 xs) (drop 2 ys) (omega (arith, h)) (drop_front 2 n xs ys e) in
     rw (byte_front 0 n xs ys (omega (arith, h)) e, byte_front 1 n xs ys (omega (arith, h)) e, same-header)
 
-pub announced_alike : (xs ys : List ℕ) {W H c start : ℕ} → head_of xs ≡ Picture W H c start → take start xs ≡ take start ys → head_of ys ≡ Picture W H c start
-announced_alike xs ys {start = start} e same = head_front start xs ys (omega (arith, (headed xs e).ends)) same ∙ e
+pub announced_alike : (xs ys : List ℕ) {p : Picture} → head_of xs ≡ Ok p → take p.start xs ≡ take p.start ys → head_of ys ≡ Ok p
+announced_alike xs ys {p} e same = head_front p.start xs ys (omega (arith, (headed xs e).ends)) same ∙ e

@@ -5,36 +5,41 @@ ghost use Rattle.std.specs.Prelude.{◌≡◌, ◌++◌, ◌+◌, ◌≤◌, len
 ghost use Rattle.header_writer.specs.Heading.{header_bytes};
 ghost use Rattle.still_writer.specs.Write.{written_of, Writes};
 
-use answers::Written;
+use refusals::Refusal;
 
 // What a call with these numbers answers.
-fn tested(width: usize, height: usize, channels: usize, raster: usize, room: usize) -> Written
+#[tactic(auto, using(crate::proofs::WriteLaws::few), unfolding(crate::specs::Write::written_of, crate::specs::Write::write_tests))]
+fn tested(
+    width: usize,
+    height: usize,
+    channels: usize,
+    raster: usize,
+    room: usize,
+) -> Result<usize, Refusal>
     ensures { result ≡ written_of width height channels raster room }
 {
     if !picture_sizes::is_channels(channels) {
-        return Written::Refused(refusals::CHANNELS);
+        return Err(Refusal::Channels);
     }
-    if picture_sizes::is_side(width) {
-        if picture_sizes::is_side(height) {
-            let size = width * height * channels;
-            if raster < size {
-                return Written::Refused(refusals::RASTER_SHORT);
-            }
-            if size < raster {
-                return Written::Refused(refusals::RASTER_LONG);
-            }
-            let head = header_writer::header(width, height, channels);
-            let total = head.len + size;
-            if room < total {
-                return Written::Refused(refusals::ROOM);
-            }
-            return Written::Length(total);
-        }
+    if !picture_sizes::is_side(width) || !picture_sizes::is_side(height) {
+        return Err(Refusal::Side);
     }
-    Written::Refused(refusals::SIDE)
+    let size = width * height * channels;
+    if raster < size {
+        return Err(Refusal::RasterShort);
+    }
+    if size < raster {
+        return Err(Refusal::RasterLong);
+    }
+    let total = header_writer::header(width, height, channels).len() + size;
+    if room < total {
+        return Err(Refusal::Room);
+    }
+    Ok(total)
 }
 
 // Header and raster into the front of out.
+#[tactic(auto, using(crate::proofs::WriteLaws::raster_behind))]
 fn put(width: usize, height: usize, channels: usize, raster: &[u8], out: &mut [u8])
     requires { (width ≤ 8192) × (height ≤ 8192) × (length (header_bytes width height channels) + length raster.now ≤ length out.old) }
     ensures { out.new ≡ header_bytes width height channels ++ (raster.now ++ drop (length (header_bytes width height channels) + length raster.now) out.old) }
@@ -44,20 +49,17 @@ fn put(width: usize, height: usize, channels: usize, raster: &[u8], out: &mut [u
 }
 
 // Write a still: how many bytes were written, or refusal 19, 3, 5, 6 or 20.
+#[tactic(auto, using(crate::proofs::WriteLaws::accepted))]
 pub fn write_still(
     width: usize,
     height: usize,
     channels: usize,
     raster: &[u8],
     out: &mut [u8],
-) -> Written
+) -> Result<usize, Refusal>
     ensures { Writes width height channels raster.now out.old result out.new }
 {
-    match tested(width, height, channels, raster.len(), out.len()) {
-        Written::Refused(n) => Written::Refused(n),
-        Written::Length(n) => {
-            put(width, height, channels, raster, out);
-            Written::Length(n)
-        }
-    }
+    let len = tested(width, height, channels, raster.len(), out.len())?;
+    put(width, height, channels, raster, out);
+    Ok(len)
 }

@@ -10,40 +10,37 @@ ghost use Rattle.table_sizes.specs.Needs.{work_sums};
 use stage_values::{Stage, Window, Work};
 
 // The entries of a row of sums.
-pub fn table_width(w: usize, window: Window) -> usize
-    requires { (w ≤ 8192) × (window.r ≤ 15) }
-    ensures { result ≡ table_width w window }
+pub fn table_width(w: usize, r: usize) -> usize
+    requires { (w ≤ 8192) × (r ≤ 15) }
+    ensures { result ≡ table_width w r }
 {
-    w + 2 * window.r + 1
+    w + 2 * r + 1
 }
 
 // The entries of a whole ring of rows.
 fn ring_size(w: usize, window: Window) -> usize
-    requires { (w ≤ 8192) × (window.r ≤ 15) × (window.s ≤ 15) }
+    requires { w ≤ 8192 }
     ensures { result ≡ ring_size w window }
 {
-    (2 * window.s + 2) * table_width(w, window)
+    (2 * window.s + 2) * table_width(w, window.r)
 }
 
 // Where the row after that at `at` lies: behind it, or at the front where the ring ends.
 pub fn next_start(w: usize, window: Window, at: usize) -> usize
-    requires { (w ≤ 8192) × (window.r ≤ 15) × (window.s ≤ 15) × ((y : ℕ) × (at ≡ row_start w window y)) }
+    requires { (w ≤ 8192) × ((y : ℕ) × (at ≡ row_start w window y)) }
     ensures { (y : ℕ) → at ≡ row_start w window y → result ≡ row_start w window (y + 1) }
 {
-    let next = at + table_width(w, window);
+    let next = at + table_width(w, window.r);
     if next < ring_size(w, window) { next } else { 0 }
 }
 
 // The sums that a box stage holds, 0 for other work.
 pub fn work_sums(stage: Stage, w: usize) -> usize
-    requires { (w ≤ 8192) × ((t : Model.Stage) × Stands stage t) }
+    requires { w ≤ 8192 }
     ensures { (t : Model.Stage) → Stands stage t → result ≡ work_sums w t.work }
 {
-    let work = stage.work;
-    match work {
-        Work::Weighted => 0,
+    match stage.work {
         Work::Boxed(window) => ring_size(w, window),
-        Work::Ranked(_, _) => 0,
-        Work::Outlined => 0,
+        Work::Weighted | Work::Ranked(_) | Work::Outlined => 0,
     }
 }

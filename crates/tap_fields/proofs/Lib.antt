@@ -1,2 +1,1 @@
-pub mod PastEnd
 pub mod TapFieldLaws

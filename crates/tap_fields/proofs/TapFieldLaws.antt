@@ -5,28 +5,25 @@ use mathlib.Core.Bool.{Bool}
 use mathlib.Core.List.{List, ◌++◌}
 use lib.ListN.{drop}
 use Rattle.refusals.specs.Refusal.{verdict, and_then}
-use Rattle.refusals.specs.declared.Verdict.{Verdict}
-use Rattle.refusals.specs.declared.Verdict.TheVariants.{Passed}
+use Rattle.std.specs.Prelude.{Ok}
 use Rattle.refusals.proofs.Passed.{AllPass, verdict_append, all_pass, all_append}
 use Rattle.recipe_bytes.specs.Bytes.{at}
 use Rattle.axis_fields.specs.AxisFields.{sizes_length, size_tests, axis_tests, weight_tests}
 use Rattle.tap_fields.specs.TapFields.{tap_tests}
 
 -- after sizes that pass
-pub taps_parts : (real : Bool) (b : List ℕ) {a d w : Verdict} → verdict (size_tests real b) ≡ Passed
-    → a ≡ verdict (axis_tests (at b 0) (drop (sizes_length real) b))
-    → d ≡ verdict (axis_tests (at b 1) (drop (sizes_length real + at b 0) b))
-    → w ≡ verdict (weight_tests real (at b 0 + at b 1) (drop (sizes_length real + (at b 0 + at b 1)) b))
-    → and_then a (and_then d w) ≡ verdict (tap_tests real b)
+pub taps_of : (real : Bool) (b : List ℕ) → verdict (size_tests real b) ≡ Ok tt → verdict (tap_tests real b)
+    ≡ and_then (verdict (axis_tests (at b 0) (drop (sizes_length real) b)))
+    (and_then (verdict (axis_tests (at b 1) (drop (sizes_length real + at b 0) b))) (verdict (weight_tests real (at b 0 + at b 1) (drop (sizes_length real + (at b 0 + at b 1)) b))))
 unfolding tap_tests
-taps_parts real b h e f g =
+taps_of real b h =
     let x = axis_tests (at b 0) (drop (sizes_length real) b) in
     let y = axis_tests (at b 1) (drop (sizes_length real + at b 0) b) in
     let z = weight_tests real (at b 0 + at b 1) (drop (sizes_length real + (at b 0 + at b 1)) b) in
-    rw (e, f, g, verdict_append (size_tests real b) (x ++ (y ++ z)), h, verdict_append x (y ++ z), verdict_append y z)
+    rw (verdict_append (size_tests real b) (x ++ (y ++ z)), h, verdict_append x (y ++ z), verdict_append y z)
 
 -- the parts of tests that pass
-pub parts : (real : Bool) (b : List ℕ) → verdict (tap_tests real b) ≡ Passed
+pub parts : (real : Bool) (b : List ℕ) → verdict (tap_tests real b) ≡ Ok tt
     → AllPass (size_tests real b)
     × AllPass (axis_tests (at b 0) (drop (sizes_length real) b))
     × AllPass (axis_tests (at b 1) (drop (sizes_length real + at b 0) b))

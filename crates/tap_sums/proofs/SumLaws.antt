@@ -1,5 +1,5 @@
 -- Sums by held taps. Assumes nothing.
-use Prim.Native.Nat.{ℕ, zero, suc, ◌+◌, ◌*◌, ◌≤◌, ◌<◌}
+use Prim.Native.Nat.{ℕ, zero, suc, ◌*◌, ◌≤◌, ◌<◌}
 use native.Mathlib.Nat.{mul-le-mul_left, eq-or-lt_of_le, le_of_suc-le-suc}
 use native.Mathlib.Omega.{arith}
 use mathlib.Core.Logic.{⊎_elim}
@@ -8,14 +8,15 @@ use mathlib.Core.List.{List}
 use lib.ListN.{get_or}
 use lib.IntN.{ℤ, pos, nat_abs, ◌+ℤ◌, ◌*ℤ◌}
 use Rattle.integers.proofs.Parts.{parts_ext, add_parts, abs_add, abs_mul}
-use Rattle.tap_sums.specs.HeldSums.{held_sum, held_size}
+use Rattle.stage_values.specs.Size.{held_size}
+use Rattle.tap_sums.specs.HeldSums.{held_sum}
 
 -- ---- sizes
 
 module _ (offsets : List ℕ) (weights : List ℤ) (g : ℕ → ℤ) where
   -- a sum of values of at most M
   pub held_size_lem : (M : ℕ) → ((o : ℕ) → nat_abs (g o) ≤ M) → (n : ℕ) → nat_abs (held_sum offsets weights n g) ≤ held_size weights n * M
-  unfolding held_sum held_size
+  unfolding held_sum
   held_size_lem M h zero = omega arith
   held_size_lem M h (suc n) =
       let t = get_or weights n (pos 0) in
@@ -24,7 +25,6 @@ module _ (offsets : List ℕ) (weights : List ℤ) (g : ℕ → ℤ) where
 
 -- fewer taps are no larger
 pub size_mono : (weights : List ℤ) (k n : ℕ) → k ≤ n → held_size weights k ≤ held_size weights n
-unfolding held_size
 size_mono weights k zero h = rw (eq-zero h) (omega arith)
   where
     eq-zero : {j : ℕ} → j ≤ 0 → j ≡ 0
@@ -33,7 +33,6 @@ size_mono weights k (suc n) h = ⊎_elim (λ e. rw e (omega arith)) (λ l. omega
 
 -- nor is one tap
 pub weight_size : (weights : List ℤ) (k n : ℕ) → k < n → nat_abs (get_or weights k (pos 0)) ≤ held_size weights n
-unfolding held_size
 weight_size weights k n h = omega (arith, size_mono weights (suc k) n h)
 
 -- ---- only what the taps reach counts

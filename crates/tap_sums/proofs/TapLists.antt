@@ -1,19 +1,17 @@
 -- Sums by held taps, as sums by a list of taps. Assumes nothing.
-use Prim.Native.Nat.{ℕ, zero, suc, ◌+◌}
+use Prim.Native.Nat.{ℕ, zero, suc}
 use native.Mathlib.Numerals.{add-one}
 use native.Mathlib.Omega.{arith}
 use mathlib.Core.Path.{◌≡◌, refl, sym, ap, ◌∙◌}
 use mathlib.Core.List.{List, [], ◌∷◌, ◌++◌}
 use lib.ListN.{get_or}
-use lib.IntN.{ℤ, pos, nat_abs, ◌+ℤ◌, ◌*ℤ◌}
-use Rattle.integers.specs.Sum.{sum}
+use lib.IntN.{ℤ, pos, ◌+ℤ◌, ◌*ℤ◌}
 use Rattle.integers.proofs.Parts.{parts_ext, add_parts}
 use Rattle.lists.specs.Tabulate.{tabulate}
 use Rattle.lists.proofs.Tabulate.{tabulate_last}
-use Rattle.lists.proofs.Sums.{map-tabulate, sum_more, sum-none}
-use Rattle.model.specs.Kernel.{Tap, tap, weighted_sum, magnitude}
+use Rattle.model.specs.Kernel.{Tap, tap, weighted_sum}
 use Rattle.stage_values.specs.Place.{offset_of}
-use Rattle.tap_sums.specs.HeldSums.{held_tap, held_sum, held_size}
+use Rattle.tap_sums.specs.HeldSums.{held_tap, held_sum}
 
 last_tap : (ts : List Tap) (t : Tap) (f : ℤ → ℤ) → weighted_sum (ts ++ (t ∷ [])) f ≡ weighted_sum ts f +ℤ t.weight *ℤ f t.offset
 unfolding weighted_sum
@@ -39,13 +37,3 @@ held_list offsets weights f (suc n) =
     let h = held_tap offsets weights in
     ap (λ (z : ℤ). z +ℤ get_or weights n (pos 0) *ℤ f (offset_of (get_or offsets n 0))) (held_list offsets weights f n)
     ∙ sym (last_tap (tabulate h n) (h n) f) ∙ ap (λ (ts : List Tap). weighted_sum ts f) (sym (rw add-one at (tabulate_last h n (h n) refl)))
-
-sizes : (weights : List ℤ) (n : ℕ) → held_size weights n ≡ sum (tabulate (λ i. nat_abs (get_or weights i (pos 0))) n)
-unfolding held_size
-sizes weights zero = sym (sum-none _)
-sizes weights (suc n) = ap (λ (k : ℕ). k + nat_abs (get_or weights n (pos 0))) (sizes weights n) ∙ sym (rw add-one at (sum_more (λ i. nat_abs (get_or weights i (pos 0))) n))
-
--- the size of held weights, as that of a list of taps
-pub size_list : (offsets : List ℕ) (weights : List ℤ) (n : ℕ) → held_size weights n ≡ magnitude (tabulate (held_tap offsets weights) n)
-unfolding magnitude held_tap tap
-size_list offsets weights n = sizes weights n ∙ ap sum (sym (map-tabulate (λ t. nat_abs t.weight) (held_tap offsets weights) n))

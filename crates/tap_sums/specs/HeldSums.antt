@@ -1,5 +1,5 @@
 -- Sums by the taps of an axis as the code holds them: offsets 15 too large, and whole weights (65,536ths in a stage, numerators in a verdict).
-use Rattle.std.specs.Prelude.{ℕ, zero, suc, ◌+◌, ◌^◌, ◌≤◌, ◌<◌, List, get_or, ℤ, pos, nat_abs, ◌+ℤ◌, ◌*ℤ◌}
+use Rattle.std.specs.Prelude.{ℕ, zero, suc, ◌+◌, ◌^◌, ◌≤◌, ◌<◌, List, get_or, ℤ, pos, ◌+ℤ◌, ◌*ℤ◌}
 use Rattle.integers.specs.Divide.{floor_div, clamp}
 use Rattle.model.specs.Kernel.{Tap, tap}
 use Rattle.stage_values.specs.declared.Axis.{Axis}
@@ -14,20 +14,9 @@ unfoldable pub held_sum : List ℕ → List ℤ → ℕ → (ℕ → ℤ) → �
 held_sum offsets weights zero g = pos 0
 held_sum offsets weights (suc n) g = held_sum offsets weights n g +ℤ get_or weights n (pos 0) *ℤ g (get_or offsets n 0)
 
--- the sum of the first n weights' sizes
-unfoldable pub held_size : List ℤ → ℕ → ℕ
-held_size weights zero = 0
-held_size weights (suc n) = held_size weights n + nat_abs (get_or weights n (pos 0))
-
 -- the weighted sum of all taps of an axis
 abbrev pub axis_sum : Axis → (ℕ → ℤ) → ℤ
 axis_sum a g = held_sum a.offsets a.weights a.len g
-
--- what a stage needs of an axis: few taps, offsets within reach, a gain of about 4 at most
-pub record Light (a : Axis) : Type 0 where
-  pub few : a.len ≤ 31
-  pub near : (i : ℕ) → i < a.len → get_or a.offsets i 0 ≤ 30
-  pub size : held_size a.weights a.len ≤ 262175
 
 -- the row value, from the sum of weighted samples: floor((sum + 512) / 1,024)
 unfoldable pub row_of : ℤ → ℤ

@@ -19,11 +19,11 @@ fn weight_at(part: &[u8], real: bool, o: usize, k: usize) -> Weight
     ensures { T (usable result) × (numerator_of result ≡ numerator_at real part.now k) × (nat_abs (numerator_of result) ≤ 2 ^ 37) }
 {
     if real {
-        let t = weights::real_tap(part[o], recipe_bytes::bits_at(part, k));
-        let x = t.weight;
-        return Weight::Real(x);
+        let tap = weights::real_tap(part[o], recipe_bytes::bits_at(part, k));
+        Weight::Real(tap.weight)
+    } else {
+        Weight::Whole(recipe_bytes::ratio_at(part, k))
     }
-    Weight::Whole(recipe_bytes::ratio_at(part, k))
 }
 
 // A numerator as it is held.
@@ -48,10 +48,8 @@ fn offsets_from(part: &[u8], n: usize, o: usize) -> [u8; 31]
     ensures { (31 ≡ length result) × (take n result ≡ tabulate (λ i. held_offset (at part.now (o + i))) n) }
 {
     let mut held = [0u8; 31];
-    let mut i = 0;
-    while i < n {
-        held[i] = ((recipe_bytes::raised_offset(part[o + i]) - 113) % 256) as u8;
-        i += 1;
+    for i in 0..n {
+        held[i] = (recipe_bytes::raised_offset(part[o + i]) - 113) as u8;
     }
     held
 }
@@ -63,10 +61,8 @@ fn values_from(part: &[u8], real: bool, n: usize, o: usize, w: usize) -> [u64; 3
 {
     let step = axis_fields::weight_length(real);
     let mut values = [0u64; 31];
-    let mut i = 0;
-    while i < n {
+    for i in 0..n {
         values[i] = value_at(part, real, o + i, w + step * i);
-        i += 1;
     }
     values
 }

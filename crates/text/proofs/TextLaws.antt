@@ -3,45 +3,37 @@ use Prim.Native.Nat.{ℕ, suc, ◌+◌, ◌-◌, ◌*◌, ◌≤◌, ◌<◌, mi
 use native.Mathlib.Omega.{arith}
 use native.Mathlib.Numerals.{add-one}
 use mathlib.Core.Path.{◌≡◌, refl, sym, ap, ◌∙◌}
-use mathlib.Core.Bool.{Bool, true, false, cond}
+use mathlib.Core.Bool.{Bool, true, false}
 use mathlib.Core.List.{List, [], ◌∷◌}
 use lib.ListN.{length, get_or, drop, drop_of_length-le}
 use lib.Seq.{drop-cons}
-use lib.Dec.{eqb}
-use borrow.Author.Tests.{le-leb}
-use Rattle.text.specs.declared.Step.{Step}
-use Rattle.text.specs.declared.Step.TheVariants.{End, Next}
-use Rattle.text.specs.Text.{is_space, gap, is_digit, digits, value_from, value}
+use Rattle.std.specs.Prelude.{Option, Some, None}
+use Rattle.text.specs.Text.{gap, is_digit, digits, value_from, value}
 use Rattle.text.specs.Step.{step_of}
 
 -- ---- separators
 
 -- what is counted after a step
-abbrev pub counted : Step → (Bool → ℕ) → ℕ
-counted End rest = 0
-counted (Next c) rest = suc (rest c)
+abbrev pub counted : Option Bool → (Bool → ℕ) → ℕ
+counted None rest = 0
+counted (Some c) rest = suc (rest c)
 
 gap_cons : (comment : Bool) (b : ℕ) (bytes : List ℕ) → gap comment (b ∷ bytes) ≡ counted (step_of comment b) (λ c. gap c bytes)
 unfolding gap step_of
 gap_cons true b bytes = refl
-gap_cons false b bytes = go (is_space b) (eqb b 35)
-  where
-    go : (s t : Bool) → cond s (suc (gap false bytes)) (cond t (suc (gap true bytes)) 0) ≡ counted (cond s (Next false) (cond t (Next true) End)) (λ c. gap c bytes)
-    go true t = refl
-    go false true = refl
-    go false false = refl
+gap_cons false b bytes = grind arith
 
 module _ (comment : Bool) (i : ℕ) (bytes : List ℕ) where
-  pub gap_step : {s : Step} → i < length bytes → s ≡ step_of comment (get_or bytes i 0) → gap comment (drop i bytes) ≡ counted s (λ c. gap c (drop (i + 1) bytes))
+  pub gap_step : {s : Option Bool} → i < length bytes → s ≡ step_of comment (get_or bytes i 0) → gap comment (drop i bytes) ≡ counted s (λ c. gap c (drop (i + 1) bytes))
   gap_step l e = rw (drop-cons bytes i 0 l, gap_cons, ← e, add-one)
 
   pub gap_end : length bytes ≤ i → gap comment (drop i bytes) ≡ 0
   unfolding gap
   gap_end l = rw (drop_of_length-le bytes l)
 
-counted-le : (s : Step) (rest : Bool → ℕ) (n : ℕ) → ((c : Bool) → rest c ≤ n) → counted s rest ≤ suc n
-counted-le End rest n h = omega arith
-counted-le (Next c) rest n h = omega (arith, h c)
+counted-le : (s : Option Bool) (rest : Bool → ℕ) (n : ℕ) → ((c : Bool) → rest c ≤ n) → counted s rest ≤ suc n
+counted-le None rest n h = omega arith
+counted-le (Some c) rest n h = omega (arith, h c)
 
 pub gap-le : (comment : Bool) (bytes : List ℕ) → gap comment bytes ≤ length bytes
 gap-le comment [] = omega (arith, gap_end comment 0 [] (omega arith))
@@ -49,18 +41,10 @@ gap-le comment (b ∷ bytes) = rw gap_cons (counted-le (step_of comment b) (λ c
 
 -- ---- digits
 
-digit : (b : ℕ) → 48 ≤ b → b ≤ 57 → is_digit b ≡ true
-unfolding is_digit
-digit b h k = rw (le-leb 48 b h, le-leb b 57 k)
-
 pub digits_le : (bytes : List ℕ) → length (digits bytes) ≤ length bytes
 unfolding digits
 digits_le [] = omega arith
-digits_le (b ∷ bytes) = go (is_digit b) (digits_le bytes)
-  where
-    go : (t : Bool) → length (digits bytes) ≤ length bytes → length (cond t (b ∷ digits bytes) []) ≤ suc (length bytes)
-    go true h = omega arith
-    go false h = omega arith
+digits_le (b ∷ bytes) = grind (arith, digits_le bytes)
 
 -- a number cut at 10,000 before its next digit, and after
 cut_once : (n d : ℕ) → min (min n 10000 * 10 + d) 10000 ≡ min (n * 10 + d) 10000
@@ -76,13 +60,13 @@ cut-value n (b ∷ bytes) =
 
 -- the digits that are left at i, after a number n
 module _ (n i : ℕ) (bytes : List ℕ) where
-  pub digits_more : i < length bytes → 48 ≤ get_or bytes i 0 → get_or bytes i 0 ≤ 57
+  pub digits_more : i < length bytes → is_digit (get_or bytes i 0) ≡ true
       → (min (value_from n (digits (drop i bytes))) 10000 ≡ min (value_from (min (n * 10 + (get_or bytes i 0 - 48)) 10000) (digits (drop (i + 1) bytes))) 10000)
       × (length (digits (drop i bytes)) ≡ 1 + length (digits (drop (i + 1) bytes)))
   unfolding digits value_from
-  digits_more l h k = (
-    rw (drop-cons bytes i 0 l, digit (get_or bytes i 0) h k, add-one) (sym (cut-value (n * 10 + (get_or bytes i 0 - 48)) (digits (drop (suc i) bytes)))),
-    rw (drop-cons bytes i 0 l, digit (get_or bytes i 0) h k, add-one) (omega arith),
+  digits_more l h = (
+    rw (drop-cons bytes i 0 l, h, add-one) (sym (cut-value (n * 10 + (get_or bytes i 0 - 48)) (digits (drop (suc i) bytes)))),
+    rw (drop-cons bytes i 0 l, h, add-one) (omega arith),
   )
 
   pub digits_stop : i < length bytes → is_digit (get_or bytes i 0) ≡ false → digits (drop i bytes) ≡ []
@@ -97,7 +81,9 @@ module _ (n i : ℕ) (bytes : List ℕ) where
 pub digits_done : (n i : ℕ) (bytes : List ℕ) → n ≤ 10000 → min (value_from 0 (digits bytes)) 10000 ≡ min (value_from n (digits (drop i bytes))) 10000 → length (digits bytes) ≡ i + length (digits (drop i bytes))
     → digits (drop i bytes) ≡ [] → (n ≡ min (value (digits bytes)) 10000) × (i ≡ length (digits bytes))
 unfolding value_from value
-digits_done n i bytes h v l e = (
-  (let w : min (value_from 0 (digits bytes)) 10000 ≡ min n 10000 = rw e at v in omega arith),
-  (let w : length (digits bytes) ≡ i + 0 = rw e at l in omega arith),
-)
+digits_done n i bytes h v l e = grind arith
+
+-- what the loops rest on
+pub ruleset gap_loop = (gap_step, gap_end)
+
+pub ruleset digits_loop = (digits_more, digits_stop, digits_end, digits_done)

@@ -1,65 +1,43 @@
 // The text of a header: whitespace, comments and separators, and decimal numbers of any length.
 #![tactic(auto)]
 
-ghost use Rattle.std.specs.Prelude.{◌≡◌, true, false, ◌+◌, ◌-◌, ◌*◌, ◌≤◌, ◌<◌, min, length};
+ghost use Rattle.std.specs.Prelude.{◌≡◌, false, ◌+◌, ◌-◌, ◌*◌, ◌≤◌, min, length};
 ghost use Rattle.text.specs.Text.{is_space, gap, digits, value};
 ghost use Rattle.text.specs.Step.{step_of};
 
+#[tactic(auto, unfolding(crate::specs::Text::is_space))]
 pub fn is_space(b: u8) -> bool
     ensures { result ≡ is_space b }
 {
-    if b == 32 {
-        return true;
-    }
-    if b == 9 {
-        return true;
-    }
-    if b == 13 {
-        return true;
-    }
-    b == 10
+    matches!(b, b' ' | b'\t' | b'\r' | b'\n')
 }
 
-// What a byte does to a run of separators: it ends it, or goes on, inside a comment or not.
-#[derive(Clone, Copy)]
-pub enum Step {
-    End,
-    Next(bool),
-}
-
-fn step_over(comment: bool, b: u8) -> Step
+// What a byte does to a run of separators: it ends it (`None`), or the run goes on, inside a comment or not.
+#[tactic(auto, unfolding(crate::specs::Step::step_of))]
+fn step_over(comment: bool, b: u8) -> Option<bool>
     ensures { result ≡ step_of comment b }
 {
-    if comment {
-        return Step::Next(b != 10);
+    match b {
+        _ if comment => Some(b != b'\n'),
+        _ if is_space(b) => Some(false),
+        b'#' => Some(true),
+        _ => None,
     }
-    if is_space(b) {
-        return Step::Next(false);
-    }
-    if b == 35 {
-        return Step::Next(true);
-    }
-    Step::End
 }
 
 // How many bytes of separators stand at the front.
+#[tactic(auto, using(crate::proofs::TextLaws::gap_loop))]
 pub fn separators(part: &[u8]) -> usize
     ensures { result ≡ gap false part.now }
 {
     let mut comment = false;
-    let mut i = 0;
-    while i < part.len() {
-        match step_over(comment, part[i]) {
-            Step::End => {
-                return i;
-            }
-            Step::Next(c) => {
-                comment = c;
-                i += 1;
-            }
-        }
+    for (i, b) in part.iter().enumerate() {
+        let Some(inside) = step_over(comment, *b) else {
+            return i;
+        };
+        comment = inside;
     }
-    i
+    part.len()
 }
 
 // Every number from here on is held as this one: past every side and maximum, and far from overflow.
@@ -77,25 +55,22 @@ fn with_digit(value: usize, b: u8) -> usize
     requires { (value ≤ 10000) × (48 ≤ b) }
     ensures { result ≡ min (value * 10 + (b - 48)) 10000 }
 {
-    let more = value * 10 + (b - 48) as usize;
-    if more < CUT { more } else { CUT }
+    (value * 10 + usize::from(b - b'0')).min(CUT)
 }
 
+#[tactic(auto, using(crate::proofs::TextLaws::digits_loop), unfolding(crate::specs::Text::is_digit))]
 pub fn number(part: &[u8]) -> Decimal
     ensures { (result.value ≡ min (value (digits part.now)) 10000) × (result.len ≡ length (digits part.now)) }
 {
     let mut value = 0;
-    let mut i = 0;
-    while i < part.len() {
-        let b = part[i];
-        if b < 48 {
-            return Decimal { value, len: i };
+    for (len, b) in part.iter().enumerate() {
+        if !b.is_ascii_digit() {
+            return Decimal { value, len };
         }
-        if 57 < b {
-            return Decimal { value, len: i };
-        }
-        value = with_digit(value, b);
-        i += 1;
+        value = with_digit(value, *b);
     }
-    Decimal { value, len: i }
+    Decimal {
+        value,
+        len: part.len(),
+    }
 }

@@ -19,7 +19,7 @@ pub fn add(
     ensures { ChangesBackground (addition still.now number tolerance (length rasters.old) (length labels.old) (background_in (held_in held.old) rasters.old labels.old)) rasters.old rasters.new labels.old labels.new held.old held.new result }
 {
     let holds = told::held(held);
-    told::changed(
+    told::tell(
         background_additions::add_still(holds, still, number, tolerance, rasters, labels),
         held,
     )
@@ -30,7 +30,7 @@ pub fn remove(number: u32, rasters: &mut [u8], labels: &mut [u32], held: &mut [u
     ensures { ChangesBackground (removal number (length rasters.old) (length labels.old) (background_in (held_in held.old) rasters.old labels.old)) rasters.old rasters.new labels.old labels.new held.old held.new result }
 {
     let holds = told::held(held);
-    told::changed(
+    told::tell(
         background_removals::remove_still(holds, number, rasters, labels),
         held,
     )
@@ -47,7 +47,7 @@ pub fn mean(
     ensures { MeansStills (background_in (held_in held.now) rasters.now labels.now) rasters.now labels.now out.old out.new res.old res.new result }
 {
     let holds = told::held(held);
-    told::mean(
+    told::tell(
         background_mean::mean_still(holds, rasters, labels, out),
         res,
     )

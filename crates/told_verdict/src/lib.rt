@@ -14,7 +14,7 @@ pub fn verdict(
 ) -> u32
     ensures { GivesVerdict distance recipe.now raw.now received.now work.old work.new res.old res.new result }
 {
-    told::judged(
+    told::tell(
         verdicts::verdict(recipe, raw, received, distance, work),
         res,
     )

@@ -10,14 +10,14 @@ fn quotient_up(a: u64, b: u64, d: u64) -> u64
     requires { (a ≤ 2 ^ 36) × (b ≤ 2 ^ 26) × (0 < d) × (d ≤ 2 ^ 32) }
     ensures { (result ≡ ceil_div (a * b) d) × (result ≤ 2 ^ 62) }
 {
-    (a * b + (d - 1)) / d
+    (a * b).div_ceil(d)
 }
 
 // Cut to 255 levels, beyond which no error goes.
 fn cut(x: u64) -> u64
     ensures { result ≡ min x 16711680 }
 {
-    if x < 16711680 { x } else { 16711680 }
+    x.min(16711680)
 }
 
 // The tolerance so far, as a number of 65,536ths of a grey level.

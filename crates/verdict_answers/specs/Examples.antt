@@ -1,6 +1,6 @@
 -- Worked examples of a verdict (request 2026-11): what is refused first, and which samples are near enough.
 -- A row names the case, what the definitions give for its input, and what they should give. The theorems at the end go over all rows.
-use Rattle.std.specs.Prelude.{ℕ, cond, List, [], ◌∷◌, map, ◌≡◌, refl, ℤ, pos, negsuc}
+use Rattle.std.specs.Prelude.{ℕ, cond, List, [], ◌∷◌, map, ◌≡◌, refl, ℤ, pos, negsuc, Result, Ok, Err}
 use Prim.Native.String.{String}
 use Rattle.integers.specs.Divide.{clamp}
 use Rattle.integers.specs.Sum.{sum}
@@ -14,7 +14,10 @@ use Rattle.model.specs.Rank.{insert, sort, smallest}
 use Rattle.model.specs.Stage.{Work, weighted, box, rank, stage}
 use Rattle.model.specs.Exact.{denominator, numerator, exact_plane, exact_from, denominator_from, exact, exact_denominator}
 use Rattle.model.specs.Within.{distance}
-use Rattle.answers.specs.declared.Still.{Still}
+use Rattle.refusals.specs.declared.Refusal.{Refusal}
+use Rattle.refusals.specs.declared.Refusal.TheVariants as Refusal
+use Rattle.refusals.specs.Refusal.{number}
+use Rattle.answers.specs.declared.Picture.{Picture}
 use Rattle.still_reader.specs.Head.{channels_of, magic_test, head_of}
 use Rattle.still_reader.specs.Read.{still_of}
 use Rattle.recipe_bytes.specs.Bytes.{there}
@@ -23,8 +26,7 @@ use Rattle.recipe_stages.specs.StageBytes.{work_tests, work_length, stage_tests,
 use Rattle.recipe.specs.Recipe.{stages_tests, recipe_tests}
 use Rattle.near_rows.specs.Near.{near}
 use Rattle.near_rows.specs.Everywhere.{everywhere}
-use Rattle.verdict_answers.specs.declared.Plan.{Plan}
-use Rattle.verdict_answers.specs.declared.Plan.TheVariants.{Refused, Compare}
+use Rattle.verdict_answers.specs.declared.Comparison.{Comparison}
 use Rattle.verdict_answers.specs.Plan.{fit_stage, request_tests, stills_plan, plan_of}
 use Rattle.verdict_answers.specs.VerdictAnswer.{all_near}
 
@@ -39,21 +41,29 @@ row n f e = record { name = n; found = f; expected = e }
 -- ---- the order of refusals
 
 -- a plan's numbers: a refusal's, or the size and where both rasters begin
-unfoldable pub numbers : Plan → List ℕ
-numbers (Refused n) = n ∷ []
-numbers (Compare W H channels a b) = W ∷ H ∷ channels ∷ a ∷ b ∷ []
+unfoldable pub numbers : Result Comparison Refusal → List ℕ
+numbers (Err refusal) = number refusal ∷ []
+numbers (Ok p) = p.width ∷ p.height ∷ p.channels ∷ p.raw ∷ p.received ∷ []
 
 -- a distance and a recipe, with two empty files and nothing lent
 unfoldable pub asked : ℕ → List ℕ → List ℕ
 asked c recipe = numbers (plan_of c recipe [] [] 0)
 
 -- two stills, with so many work bytes lent
-unfoldable pub stills : ℕ → Still → Still → List ℕ
+unfoldable pub stills : ℕ → Result Picture Refusal → Result Picture Refusal → List ℕ
 stills works first second = numbers (stills_plan works first second)
 
+-- a still of so many channels, whose header has `start` bytes
+unfoldable pub picture : ℕ → ℕ → ℕ → ℕ → Result Picture Refusal
+picture W H channels start = Ok (record { width = W; height = H; channels = channels; start = start })
+
 -- a still of one channel, with a header of 11 bytes
-unfoldable pub grey : ℕ → ℕ → Still
-grey W H = Still.Picture W H 1 11
+unfoldable pub grey : ℕ → ℕ → Result Picture Refusal
+grey W H = picture W H 1 11
+
+-- a still that is refused
+unfoldable pub refused : Refusal → Result Picture Refusal
+refused refusal = Err refusal
 
 -- whether a stage that begins with this kind may be judged, in a recipe of so many stages: 1 for yes, 0 for not
 unfoldable pub fits : ℕ → ℕ → List ℕ
@@ -72,12 +82,12 @@ refusals =
     ∷ row "a binomial is of another kind" (asked 0 (1 ∷ 3 ∷ 1 ∷ 0 ∷ 0 ∷ 0 ∷ [])) (30 ∷ [])
     ∷ row "two boxes are too many" (asked 0 (2 ∷ 4 ∷ 1 ∷ 0 ∷ 0 ∷ 0 ∷ 4 ∷ 1 ∷ 0 ∷ 0 ∷ 0 ∷ [])) (30 ∷ [])
     ∷ row "one box: then the raw still's" (asked 0 (1 ∷ 4 ∷ 1 ∷ 0 ∷ 0 ∷ 0 ∷ [])) (1 ∷ [])
-    ∷ row "the raw still's before the received one's" (stills 0 (Still.Refused 5) (Still.Refused 2)) (5 ∷ [])
-    ∷ row "the received one's before the size" (stills 0 (grey 3 1) (Still.Refused 2)) (2 ∷ [])
+    ∷ row "the raw still's before the received one's" (stills 0 (refused Refusal.RasterShort) (refused Refusal.Header)) (5 ∷ [])
+    ∷ row "the received one's before the size" (stills 0 (grey 3 1) (refused Refusal.Header)) (2 ∷ [])
     ∷ row "the size before room" (stills 0 (grey 3 1) (grey 1 3)) (31 ∷ [])
-    ∷ row "channels too" (stills 3 (grey 3 1) (Still.Picture 3 1 3 11)) (31 ∷ [])
+    ∷ row "channels too" (stills 3 (grey 3 1) (picture 3 1 3 11)) (31 ∷ [])
     ∷ row "room for all samples but one" (stills 2 (grey 3 1) (grey 3 1)) (20 ∷ [])
-    ∷ row "room for one channel is enough, however many there are" (stills 3 (Still.Picture 3 1 3 11) (Still.Picture 3 1 3 13)) (3 ∷ 1 ∷ 3 ∷ 11 ∷ 13 ∷ [])
+    ∷ row "room for one channel is enough, however many there are" (stills 3 (picture 3 1 3 11) (picture 3 1 3 13)) (3 ∷ 1 ∷ 3 ∷ 11 ∷ 13 ∷ [])
     ∷ []
 
 -- ---- which samples are near enough
@@ -139,7 +149,7 @@ verdicts =
 
 -- every definition that an example runs through, opened by one name
 opened : Unit {0}
-unfolding clamp sum tabulate raster channel closest supply plane_of pick around tap kernel weighted_sum area window insert sort smallest stage denominator numerator exact_plane exact_from denominator_from exact exact_denominator distance channels_of magic_test head_of still_of there head_tests radius_tests work_tests work_length stage_tests stage_length stages_tests recipe_tests near everywhere fit_stage request_tests plan_of all_near row numbers asked stills grey fits judged_rows judged three one smooth samples slanted square coloured
+unfolding clamp sum tabulate raster channel closest supply plane_of pick around tap kernel weighted_sum area window insert sort smallest stage denominator numerator exact_plane exact_from denominator_from exact exact_denominator distance channels_of magic_test head_of still_of there head_tests radius_tests work_tests work_length stage_tests stage_length stages_tests recipe_tests near everywhere fit_stage request_tests plan_of all_near row numbers asked stills picture grey refused fits judged_rows judged three one smooth samples slanted square coloured
 opened = tt
 
 -- THE WORKED EXAMPLES HOLD, by computation

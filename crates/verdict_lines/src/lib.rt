@@ -1,24 +1,14 @@
 // What a verdict comes to, as a line.
 #![tactic(auto)]
 
-use answers::Judged;
+use refusals::Refusal;
 use std::io;
 
 // The answer, and after a refusal the checksum of all work bytes: none may have changed.
-pub fn show(rt: &impl Print, answer: Judged, work: &[u8; 65536]) -> io::Result<()> {
+pub fn show(rt: &impl Print, answer: Result<bool, Refusal>, work: &[u8; 65536]) -> io::Result<()> {
     match answer {
-        Judged::Refused(n) => {
-            printing::refusal(rt, n)?;
-            printing::text(rt, b" work")?;
-            printing::number(rt, junk::checksum(work) as u64)?;
-        }
-        Judged::Verdict(yes) => {
-            if yes {
-                printing::text(rt, b"yes")?;
-            } else {
-                printing::text(rt, b"not")?;
-            }
-        }
+        Err(refusal) => println!(rt; "{refusal} work {}", junk::checksum(work)),
+        Ok(true) => rt.println("yes"),
+        Ok(false) => rt.println("not"),
     }
-    printing::end(rt)
 }

@@ -16,6 +16,7 @@ use Rattle.near_rows.specs.Everywhere.{everywhere}
 use Rattle.near_rows.specs.Places.{received_at, channel_near}
 use Rattle.near_rows.proofs.EverywhereLaws.{everywhere-at, everywhere-all, everywhere_ext}
 use Rattle.filter_answers.proofs.FileAccepted.{shown}
+use Rattle.verdict_answers.specs.declared.Comparison.{Comparison}
 use Rattle.verdict_answers.proofs.Accepted.{Compared}
 use Rattle.verdict_answers.specs.VerdictAnswer.{exact_at, all_near}
 use Rattle.exact_stages.specs.Fits.{Fits}
@@ -48,24 +49,24 @@ channel-tested {recipe} f c W H channels k raw received plane r e found =
 
 -- ---- what the tests have shown is what is needed
 
-module _ {c : ℕ} {recipe raw received : List ℕ} {works W H channels a b : ℕ} (s : Compared c recipe raw received works W H channels a b) where
+module _ {c : ℕ} {recipe raw received : List ℕ} {works : ℕ} {p : Comparison} (s : Compared c recipe raw received works p) where
   pub fits : Fits recipe
   fits = record { accepted = s.accepted; fit = s.fit }
 
   -- both rasters are there
-  pub raw_there : a ≤ length raw
+  pub raw_there : p.raw ≤ length raw
   raw_there = omega (arith, (shown raw s.raw-read).ends)
 
-  pub received_there : b ≤ length received
+  pub received_there : p.received ≤ length received
   received_there = omega (arith, (shown received s.received-read).ends)
 
-  pub compares : Compares W H channels (length (drop a raw)) (length (drop b received)) works
+  pub compares : Compares p.width p.height p.channels (length (drop p.raw raw)) (length (drop p.received received)) works
   compares =
       let x = shown raw s.raw-read in
       record {
         sides = record { width = x.width; height = x.height };
         some = x.channels;
-        raw-whole = rw (length-drop a raw) (omega (arith, x.ends));
-        received-whole = rw (length-drop b received) (omega (arith, (shown received s.received-read).ends));
+        raw-whole = rw (length-drop p.raw raw) (omega (arith, x.ends));
+        received-whole = rw (length-drop p.received received) (omega (arith, (shown received s.received-read).ends));
         room = s.room;
       }

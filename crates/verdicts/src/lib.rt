@@ -9,9 +9,8 @@ ghost use Rattle.exact_stages.specs.Fits.{Fits};
 ghost use Rattle.verdicts.specs.Compares.{Compares};
 ghost use Rattle.verdicts.specs.GivesVerdict.{GivesVerdict};
 
-use answers::Judged;
 use near_rows::Channel;
-use verdict_answers::Plan;
+use refusals::Refusal;
 
 // Whether each received sample of all channels is near enough. Each channel of the raw raster is taken into the front of `work`.
 fn all_near(
@@ -28,39 +27,35 @@ fn all_near(
     ensures { result ≡ all_near c w h channels (recipe_stages recipe.now) raw.now received.now }
 {
     let n = w * h;
-    let mut k = 0;
-    while k < channels {
+    for k in 0..channels {
         channels::take_channel(raw, n, channels, k, work);
         let channel = Channel { channels, index: k };
         if !exact_stages::channel_near(recipe, w, h, &work[..n], received, channel, c) {
             return false;
         }
-        k += 1;
     }
     true
 }
 
 // Whether each sample of a received still lies within `distance` levels of the exact result of a recipe of one stage on the raw still.
-pub fn verdict(recipe: &[u8], raw: &[u8], received: &[u8], distance: u64, work: &mut [u8]) -> Judged
+pub fn verdict(
+    recipe: &[u8],
+    raw: &[u8],
+    received: &[u8],
+    distance: u64,
+    work: &mut [u8],
+) -> Result<bool, Refusal>
     ensures { GivesVerdict distance recipe.now raw.now received.now work.old work.new result }
 {
-    match verdict_answers::planned(distance, recipe, raw, received, work.len()) {
-        Plan::Refused(n) => Judged::Refused(n),
-        Plan::Compare {
-            width,
-            height,
-            channels,
-            raw: start,
-            received: begin,
-        } => Judged::Verdict(all_near(
-            recipe,
-            width,
-            height,
-            channels,
-            &raw[start..],
-            &received[begin..],
-            distance,
-            work,
-        )),
-    }
+    let plan = verdict_answers::planned(distance, recipe, raw, received, work.len())?;
+    Ok(all_near(
+        recipe,
+        plan.width,
+        plan.height,
+        plan.channels,
+        &raw[plan.raw..],
+        &received[plan.received..],
+        distance,
+        work,
+    ))
 }

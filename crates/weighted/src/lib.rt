@@ -8,7 +8,7 @@ ghost use Rattle.model.specs.Weighted.{weighted_result};
 ghost use Rattle.stage_values.specs.Ready.{Ready};
 ghost use Rattle.frame.specs.Framed.{Framed, worked};
 ghost use Rattle.frame.specs.Padded.{padded};
-ghost use Rattle.tap_sums.specs.HeldSums.{held_row, Light, Reaches};
+ghost use Rattle.tap_sums.specs.HeldSums.{held_row, Reaches};
 
 use frame::Frame;
 use stage_values::Axis;
@@ -16,52 +16,40 @@ use weighted_columns::Reach;
 
 // The rows that an axis reaches, its own among them.
 fn reach_of(axis: Axis) -> Reach
-    requires { Light axis }
     ensures { Reaches axis.offsets axis.len result.first result.last }
 {
-    let len = axis.len;
-    let offsets = axis.offsets;
     let mut first = 15;
     let mut last = 15;
-    let mut k = 0;
-    while k < len {
-        let place = offsets[k] as usize;
-        first = integers::smaller(first, place);
-        last = integers::larger(last, place);
-        k += 1;
+    for k in 0..axis.len {
+        let place = axis.offsets[k] as usize;
+        first = first.min(place);
+        last = last.max(place);
     }
     Reach { first, last }
 }
 
 // The row values of `count` rows, from place `first` on.
 fn all_rows(frame: Frame, plane: &[u8], axis: Axis, first: usize, count: usize, rows: &mut [i32])
-    requires { Framed frame plane.now × (first ≤ 15) × (count ≤ 8222) × (count * frame.width ≤ length rows.old) × Light axis }
+    requires { Framed frame plane.now × (first ≤ 15) × (count ≤ 8222) × (count * frame.width ≤ length rows.old) }
     ensures { rows.new ≡ raster (λ u y. held_row axis (padded frame plane.now) u (first + y)) frame.width count ++ drop (count * frame.width) rows.old }
 {
     let w = frame.width;
     let mut row = [0u8; 8224];
-    let mut at = 0;
-    let mut y = 0;
-    while y < count {
+    for y in 0..count {
         frame::padded_row(frame, plane, first + y, &mut row);
-        weighted_rows::row_values(&row, w, axis, &mut rows[at..]);
-        at += w;
-        y += 1;
+        weighted_rows::row_values(&row, w, axis, &mut rows[y * w..]);
     }
 }
 
 // A weighted stage on a plane, in place: the row values hold what it needs of the samples before. No row is made that no tap reaches.
 pub fn weighted_stage(frame: Frame, across: Axis, down: Axis, plane: &mut [u8], rows: &mut [i32])
-    requires { Framed frame plane.old × ((frame.height + 30) * frame.width ≤ length rows.old) × ((K : Kernel) × Ready K across) × ((L : Kernel) × Ready L down) }
+    requires { Framed frame plane.old × ((frame.height + 30) * frame.width ≤ length rows.old) }
     ensures { (K L : Kernel) → Ready K across → Ready L down → plane.new ≡ worked frame (weighted_result K L) plane.old }
 {
     let w = frame.width;
     let h = frame.height;
     let reach = reach_of(down);
-    let first = reach.first;
-    let last = reach.last;
-    let count = h + (last - first);
-    let n = count * w;
-    all_rows(frame, plane, across, first, count, rows);
-    weighted_columns::all_columns(&rows[..n], w, h, reach, down, plane);
+    let count = h + (reach.last - reach.first);
+    all_rows(frame, plane, across, reach.first, count, rows);
+    weighted_columns::all_columns(&rows[..count * w], w, h, reach, down, plane);
 }

@@ -24,33 +24,28 @@ pub struct RealTap {
 pub fn real_bits(b0: u8, b1: u8, b2: u8, b3: u8) -> u32
     ensures { result ≡ pattern b0 b1 b2 b3 }
 {
-    ((b0 as u32 * 256 + b1 as u32) * 256 + b2 as u32) * 256 + b3 as u32
+    u32::from_be_bytes([b0, b1, b2, b3])
 }
 
 // The range test, in f32: 0 of either sign, or a size from 2^-12 to 4.
+#[tactic(auto, unfolding(crate::specs::Weight::in_range))]
 fn in_range(x: f32) -> bool
     ensures { result ≡ in_range x }
 {
     if x == 0.0 {
-        return true;
+        true
+    } else if x >= 0.000244140625 {
+        x <= 4.0
+    } else {
+        x <= -0.000244140625 && x >= -4.0
     }
-    if x >= 0.000244140625 {
-        return x <= 4.0;
-    }
-    if x <= -0.000244140625 {
-        return x >= -4.0;
-    }
-    false
 }
 
 // Whether a pattern is a weight that a recipe may have. A NaN's is refused before it is made a float.
 pub fn is_real_weight(bits: u32) -> bool
     ensures { result ≡ accepted bits }
 {
-    if bits % 2147483648 > 2139095040 {
-        return false;
-    }
-    in_range(f32::from_bits(bits))
+    bits % 2147483648 <= 2139095040 && in_range(f32::from_bits(bits))
 }
 
 pub fn real_tap(offset: u8, bits: u32) -> RealTap
@@ -70,9 +65,10 @@ pub fn numerator(w: Weight) -> i64
         Weight::Whole(a) => a,
         Weight::Real(x) => {
             if x == 0.0 {
-                return 0;
+                0
+            } else {
+                (x as f64 * 34359738368.0) as i64
             }
-            (x as f64 * 34359738368.0) as i64
         }
     }
 }

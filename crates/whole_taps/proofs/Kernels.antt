@@ -1,9 +1,9 @@
 -- Taps with whole numerators stand for the kernel that they were read from. Assumes nothing.
-use Prim.Native.Nat.{ℕ, ◌≤◌, ◌<◌}
+use Prim.Native.Nat.{ℕ, ◌*◌, ◌≤◌, ◌<◌}
 use native.Mathlib.Omega.{arith}
-use mathlib.Core.Path.{◌≡◌, ap}
-use mathlib.Core.List.{List}
-use lib.ListN.{get_or, take}
+use mathlib.Core.Path.{◌≡◌, sym, ap, ◌∙◌}
+use mathlib.Core.List.{List, map}
+use lib.ListN.{length, get_or, take}
 use lib.IntN.{ℤ, pos, nat_abs}
 use Rattle.lists.specs.Tabulate.{tabulate}
 use Rattle.lists.proofs.Tabulate.{tabulate_ext, entry_known}
@@ -13,26 +13,28 @@ use Rattle.numerators.specs.Numerator.{numerator_of}
 use Rattle.kernels.specs.Kernel.{tap_of, kernel_of, Limits}
 use Rattle.kernels.proofs.Units.{one_within}
 use Rattle.tap_sums.specs.HeldSums.{held_tap}
-use Rattle.tap_sums.proofs.TapLists.{size_list}
-use Rattle.whole_taps.specs.declared.Taps.{Taps}
-use Rattle.whole_taps.specs.Whole.{kernel_is, Whole}
+use Rattle.kernels.proofs.Sizes.{size_is}
+use Rattle.stage_values.specs.Size.{held_size}
+use Rattle.lists.proofs.Sums.{map-tabulate}
+use Rattle.whole_taps.specs.declared.held.Taps.{Taps}
+use Rattle.whole_taps.specs.Whole.{kernel_is}
 
-module _ (t : Taps) (values : List ℕ) (e : take t.len t.weights ≡ tabulate (λ i. numerator_of (get_or values i 0)) t.len) where
-  same_taps : tabulate (held_tap t.offsets t.weights) t.len ≡ tabulate (tap_of t.offsets values) t.len
+module _ (divisor : ℕ) (offsets values : List ℕ) (n : ℕ) (weights : List ℤ) (e : take n weights ≡ tabulate (λ i. numerator_of (get_or values i 0)) n) where
+  same_taps : tabulate (held_tap offsets weights) n ≡ tabulate (tap_of offsets values) n
   unfolding held_tap tap_of
-  same_taps = tabulate_ext _ _ t.len (λ i h. ap (λ (a : ℤ). tap (offset_of (get_or t.offsets i 0)) a) (entry_known _ t.weights t.len i (pos 0) e h))
+  same_taps = tabulate_ext _ _ n (λ i h. ap (λ (a : ℤ). tap (offset_of (get_or offsets i 0)) a) (entry_known _ weights n i (pos 0) e h))
 
-  pub same-kernel : kernel_is t ≡ kernel_of t.divisor t.offsets values t.len
-  unfolding kernel_is kernel_of
-  same-kernel = ap (kernel t.divisor) same_taps
+  weights_are : map (λ t. t.weight) (tabulate (tap_of offsets values) n) ≡ tabulate (λ i. numerator_of (get_or values i 0)) n
+  unfolding tap_of tap
+  weights_are = map-tabulate (λ t. t.weight) (tap_of offsets values) n
 
-  pub whole : Limits t.divisor t.offsets values t.len → t.divisor ≤ 65535 → Whole t
-  whole l d = record {
-    few = l.taps;
-    near = l.near;
-    low = d;
-    gain = rw (size_list t.offsets t.weights t.len, same_taps) l.gain;
-  }
+  -- the gain is that of the kernel
+  pub gain : Limits divisor offsets values n → n ≤ length weights → held_size weights n ≤ 4 * divisor
+  gain l h = rw (size_is weights n (tabulate (tap_of offsets values) n) h (e ∙ sym weights_are)) l.gain
+
+pub same-kernel : (t : Taps) (values : List ℕ) → take t.len t.weights ≡ tabulate (λ i. numerator_of (get_or values i 0)) t.len → kernel_is t ≡ kernel_of t.divisor t.offsets values t.len
+unfolding kernel_is kernel_of
+same-kernel t values e = ap (kernel t.divisor) (same_taps t.divisor t.offsets values t.len t.weights e)
 
 -- no numerator is large
 pub small : (divisor : ℕ) (offsets values : List ℕ) (n : ℕ) → Limits divisor offsets values n → divisor ≤ 65535

@@ -5,18 +5,12 @@ ghost use Rattle.std.specs.Prelude.{◌≡◌, ℕ, ◌≤◌, ◌<◌, length, 
 ghost use Rattle.lists.specs.Tabulate.{tabulate};
 ghost use Rattle.numerators.specs.Numerator.{numerator_of};
 ghost use Rattle.kernels.specs.Kernel.{kernel_of, Limits};
-ghost use Rattle.whole_taps.specs.Whole.{kernel_is, Whole};
+ghost use Rattle.whole_taps.specs.Whole.{kernel_is};
 
+mod held;
+
+pub use held::Taps;
 use kernels::Kernel;
-
-// Offsets 15 too large, numerators, and the divisor that all of them are over.
-#[derive(Clone, Copy)]
-pub struct Taps {
-    pub offsets: [u8; 31],
-    pub weights: [i32; 31],
-    pub len: usize,
-    pub divisor: u64,
-}
 
 // A numerator that is held 2^38 too large, as itself: it is brought to 2^18 too large first, which an i32 holds.
 fn numerator(value: u64) -> i32
@@ -32,10 +26,8 @@ fn numerators(values: &[u64], n: usize) -> [i32; 31]
     ensures { (31 ≡ length result) × (take n result ≡ tabulate (λ i. numerator_of (get_or values.now i 0)) n) }
 {
     let mut weights = [0i32; 31];
-    let mut i = 0;
-    while i < n {
+    for i in 0..n {
         weights[i] = numerator(values[i]);
-        i += 1;
     }
     weights
 }
@@ -43,17 +35,14 @@ fn numerators(values: &[u64], n: usize) -> [i32; 31]
 // A kernel's taps.
 pub fn taps_of(k: Kernel) -> Taps
     requires { Limits k.divisor k.offsets k.values k.len × (k.divisor ≤ 65535) }
-    ensures { (kernel_is result ≡ kernel_of k.divisor k.offsets k.values k.len) × Whole result }
+    ensures { kernel_is result ≡ kernel_of k.divisor k.offsets k.values k.len }
 {
     let offsets = k.offsets;
-    let values = k.values;
-    let len = k.len;
-    let divisor = k.divisor;
-    let weights = numerators(&values, len);
+    let weights = numerators(&k.values, k.len);
     Taps {
         offsets,
         weights,
-        len,
-        divisor,
+        len: k.len,
+        divisor: k.divisor,
     }
 }

@@ -1,6 +1,5 @@
 -- Rows and columns as the frame rule places them: a column has the samples that are supplied at its place, however they are ordered. Assumes nothing.
 use Prim.Native.Nat.{ℕ, zero, suc, ◌+◌, ◌-◌, ◌*◌, ◌≤◌, ◌<◌}
-use native.Mathlib.Nat.{le_refl}
 use native.Mathlib.Numerals.{add-one}
 use native.Mathlib.Omega.{arith}
 use mathlib.Core.Path.{◌≡◌, refl, sym, ap}
@@ -8,7 +7,7 @@ use mathlib.Core.Bool.{Bool, cond}
 use mathlib.Core.List.{List, [], ◌∷◌, ◌++◌, append-nil}
 use mathlib.Core.Option.{Option, none, some}
 use lib.ListN.{length, get_or, set, take, replicate, length-append, length-replicate, get_or-append}
-use lib.Seq.{take-set-le, take-suc-set, get_or-append_seam}
+use lib.Seq.{take-suc-set, get_or-append_seam}
 use lib.Dec.{ltb, eqb}
 use Rattle.lists.specs.Tabulate.{tabulate, raster}
 use Rattle.lists.specs.Count.{count}
@@ -18,7 +17,6 @@ use Rattle.lists.proofs.Count.{count-length}
 use Rattle.model.specs.Plane.{plane_of, pick}
 use Rattle.model_laws.proofs.Border.{Inside, supply-inside}
 use Rattle.stage_values.specs.Stands.{border_is}
-use Rattle.places.specs.Supplied.{place_of}
 use Rattle.frame.specs.declared.Frame.{Frame}
 use Rattle.frame.specs.Framed.{Framed}
 use Rattle.frame.specs.Padded.{column_at, row_at, padded}
@@ -57,15 +55,6 @@ module _ (f : Frame) (plane rows : List ℕ) (down x : ℕ) where
   -- no more of its samples are below a level than it has
   pub below-le : (g : ℕ) → length rows ≤ down → below_level g (column_in f plane rows down x) ≤ down
   below-le g h = omega (arith, count-length (λ y. ltb y g) (column_in f plane rows down x), length-column h)
-
--- a row at a place is at most the height
-pub row-le : {v : ℕ} (f : Frame) (y : ℕ) → 1 ≤ f.height → v ≡ place_of f.height (row_at f y) → v ≤ f.height
-unfolding place_of
-row-le {v} f y h e = go (row_at f y) (supply-inside (border_is f.border) f.height _ h) e
-  where
-    go : (o : Option ℕ) → Inside f.height o → v ≡ place_of f.height o → v ≤ f.height
-    go none i q = omega arith
-    go (some k) i q = omega arith
 
 -- how many are below a level in two parts
 pub below_both : (g a b : ℕ) (xs ys : List ℕ) → a ≡ below_level g xs → b ≡ below_level g ys → a + b ≡ below_level g (xs ++ ys)
@@ -114,9 +103,9 @@ module _ (f : Frame) (y : ℕ) where
   unfolding row_starts start_of
   start_more rows n j v h e q = rw (add-one, add-one, take-suc-set rows n (v * f.width) h, e, q) refl
 
-  pub start_none : (rows : List ℕ) (n j a : ℕ) → take n rows ≡ row_starts f y j → row_at f (y + j) ≡ none → take n (set rows n a) ≡ row_starts f y (j + 1)
+  pub start_none : (rows : List ℕ) (n j : ℕ) → take n rows ≡ row_starts f y j → row_at f (y + j) ≡ none → take n rows ≡ row_starts f y (j + 1)
   unfolding row_starts start_of
-  start_none rows n j a e q = rw (add-one, take-set-le n rows n a (le_refl n), e, q) (sym (append-nil _))
+  start_none rows n j e q = rw (add-one, e, q) (sym (append-nil _))
 
   pub starts_none : (rows : List ℕ) → take 0 rows ≡ row_starts f y 0
   unfolding row_starts

@@ -12,11 +12,11 @@ module _ (w : ℕ) (x : Window) (v lower upper : ℕ) (el : lower ≡ row_start 
   pub upper_edge : upper ≡ row_start w x v
   upper_edge =
       let round : v + (2 * x.s + 1) + 1 ≡ v + ring_rows x = omega arith in
-      eu ∙ ap (λ (y : ℕ). row_start w x y) round ∙ place_again (ring_rows x) (table_width w x) v
+      eu ∙ ap (λ (y : ℕ). row_start w x y) round ∙ place_again (ring_rows x) (table_width w x.r) v
 
   -- both are whole
-  pub upper_fits : {m : ℕ} → ring_size w x ≤ m → upper + table_width w x ≤ m
+  pub upper_fits : {m : ℕ} → ring_size w x ≤ m → upper + table_width w x.r ≤ m
   upper_fits h = rw eu (place_fits w x (v + (2 * x.s + 1) + 1) h)
 
-  pub lower_fits : {m : ℕ} → ring_size w x ≤ m → lower + table_width w x ≤ m
+  pub lower_fits : {m : ℕ} → ring_size w x ≤ m → lower + table_width w x.r ≤ m
   lower_fits h = rw el (place_fits w x (v + (2 * x.s + 1)) h)

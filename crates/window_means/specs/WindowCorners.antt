@@ -13,4 +13,4 @@ corners_at sums W x u v = corners (drop (row_start W x v) sums) (drop (row_start
 -- the same in the full table of a frame, whose rows lie one behind another
 unfoldable pub full_corners : Frame → Window → List ℕ → ℕ → ℕ → ℕ
 full_corners f x samples u v =
-    let row_of : ℕ → List ℕ = λ y. drop (y * table_width f.width x) (full_table f x samples) in corners (row_of v) (row_of (v + (2 * x.s + 1))) (2 * x.r + 1) u
+    let row_of : ℕ → List ℕ = λ y. drop (y * table_width f.width x.r) (full_table f x samples) in corners (row_of v) (row_of (v + (2 * x.s + 1))) (2 * x.r + 1) u

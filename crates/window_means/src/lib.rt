@@ -13,7 +13,6 @@ use stage_values::Window;
 
 // How many samples a window has.
 pub fn area(window: Window) -> u32
-    requires { (window.r ≤ 15) × (window.s ≤ 15) }
     ensures { result ≡ Model.area window.r window.s }
 {
     ((2 * window.r + 1) * (2 * window.s + 1)) as u32
@@ -21,7 +20,7 @@ pub fn area(window: Window) -> u32
 
 // A row of means, from the rows of sums that are held: the lower edge of its windows lies at `lower`, and their upper edge, the oldest row, after it.
 pub fn row_of_means(sums: &[u32], w: usize, window: Window, lower: usize, by: u32, dst: &mut [u8])
-    requires { (w ≤ 8192) × (window.r ≤ 15) × (window.s ≤ 15) × (ring_size w window ≤ length sums.now) × (w ≤ length dst.old) × (by ≡ reciprocal_of (Model.area window.r window.s)) × ((v : ℕ) × (lower ≡ row_start w window (v + (2 * window.s + 1))) × ((u : ℕ) → u < w → corners_at sums.now w window u v ≤ 255 * Model.area window.r window.s)) }
+    requires { (w ≤ 8192) × (ring_size w window ≤ length sums.now) × (w ≤ length dst.old) × (by ≡ reciprocal_of (Model.area window.r window.s)) × ((v : ℕ) × (lower ≡ row_start w window (v + (2 * window.s + 1))) × ((u : ℕ) → u < w → corners_at sums.now w window u v ≤ 255 * Model.area window.r window.s)) }
     ensures { (v : ℕ) → lower ≡ row_start w window (v + (2 * window.s + 1)) → dst.new ≡ tabulate (λ u. nearest (corners_at sums.now w window u v) (Model.area window.r window.s)) w ++ drop w dst.old }
 {
     let n = area(window);

@@ -1,27 +1,9 @@
--- `axis_fields::count_at` meets its contract, test by test. Assumes nothing.
-use borrow.Author.Tests.{le-leb, lt-leb}
-use Rattle.refusals.specs.Refusal.{verdict}
-use Rattle.recipe_bytes.specs.Bytes.{there}
-use Rattle.axis_fields.specs.AxisFields.{is_count}
-use borrow.Author.Rules.{rules}
+-- `axis_fields::count_at` meets its contract where the bytes end too early. Assumes nothing.
+use Rattle.std.proofs.lemmas.Result.{err_from_is_err_and}
+use Rattle.recipe_bytes.proofs.ByteLaws.{field_cut}
 use Rattle.axis_fields.proofs.count_at.Goals as goal
 
-pub returns-then-part-k : goal.returns-then-part-k
-unfolding verdict there is_count
-returns-then-part-k c =
-    search (rules, le-leb, lt-leb)
-
-pub returns-then-part-k-lt1 : goal.returns-then-part-k-lt1
-unfolding verdict there is_count
-returns-then-part-k-lt1 c =
-    search (rules, le-leb, lt-leb)
-
-pub returns-then-part-k-gt31 : goal.returns-then-part-k-gt31
-unfolding verdict there is_count
-returns-then-part-k-gt31 c =
-    search (rules, le-leb, lt-leb)
-
-pub returns : goal.returns
-unfolding verdict there is_count
-returns c =
-    search (rules, le-leb, lt-leb)
+pub returns-in_err-byte_at : goal.returns-in_err-byte_at
+returns-in_err-byte_at c =
+    let p = err_from_is_err_and c.from_residual.result c.from_residual.ensures.1 in
+    rw (p.1, p.2) (field_cut _ _ _ _ c.in_err-byte_at.ensures)

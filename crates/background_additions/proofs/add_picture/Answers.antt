@@ -1,25 +1,28 @@
 -- `background_additions::add_picture` meets its contract, by the verdict of the tests. Assumes nothing.
 use native.Mathlib.Omega.{arith}
-use mathlib.Core.Path.{sym, ◌∙◌}
+use mathlib.Core.Path.{sym}
+use Rattle.std.proofs.lemmas.Result.{err_from_is_err_and}
 use Rattle.background_additions.proofs.Tests.{refuses}
 use Rattle.background_additions.proofs.Added.{accepted, added}
 use Rattle.background_additions.proofs.add_picture.Goals as goal
 
 pub put_still-requires : goal.put_still-requires
 put_still-requires c =
-    let a = accepted _ _ _ _ _ _ _ _ _ (sym c.add_tests.ensures ∙ c.in-Passed.is) in
+    let a = accepted _ _ _ _ _ _ _ _ _ (sym c.in_ok-add_tests.ensures) in
     rw c.requires.2 (a.room, a.space)
 
 pub overflow_add-result : goal.overflow_add-result
 overflow_add-result c =
-    record { fits = omega (arith, (accepted _ _ _ _ _ _ _ _ _ (sym c.add_tests.ensures ∙ c.in-Passed.is)).few) }
+    record { fits = omega (arith, (accepted _ _ _ _ _ _ _ _ _ (sym c.in_ok-add_tests.ensures)).few) }
 
-pub returns-in-Refused : goal.returns-in-Refused
-returns-in-Refused c =
+pub returns-in_err-add_tests : goal.returns-in_err-add_tests
+returns-in_err-add_tests c =
     let a = c.args in
-    refuses a.rasters.now a.labels.now _ _ (sym c.add_tests.ensures ∙ c.in-Refused.is)
+    let p = err_from_is_err_and c.from_residual.result c.from_residual.ensures.1 in
+    rw (p.1, p.2) (refuses a.rasters.now a.labels.now _ _ (sym c.in_err-add_tests.ensures))
 
-pub returns-in-Passed : goal.returns-in-Passed
-returns-in-Passed c =
+pub returns : goal.returns
+returns c =
     let a = c.args in
-    added a.number a.tolerance a.size.width a.size.height a.size.channels a.held a.raster.now a.rasters.now a.labels.now c.requires.2 (sym c.add_tests.ensures ∙ c.in-Passed.is) c.put_still.ensures.0 c.put_still.ensures.1
+    let p = a.picture in
+    added a.number a.tolerance p.width p.height p.channels a.held a.raster.now a.rasters.now a.labels.now c.requires.2 (sym c.in_ok-add_tests.ensures) c.put_still.ensures.0 c.put_still.ensures.1

@@ -1,5 +1,5 @@
 -- `background_slots::largest_tolerance` meets its contract: the largest so far. Assumes nothing.
-use Prim.Native.Nat.{ℕ, ◌+◌, ◌*◌, ◌-◌, ◌≤◌}
+use Prim.Native.Nat.{ℕ, ◌+◌, ◌*◌}
 use mathlib.Core.Path.{◌≡◌}
 use lib.ListN.{get_or}
 use Rattle.lists.specs.Tabulate.{tabulate}
@@ -7,7 +7,4 @@ use Rattle.model.specs.Outline.{largest}
 use Rattle.background_slots.proofs.largest_tolerance.Given as goal
 
 abbrev pub invariant-loop-i : goal.invariant-loop-i
-invariant-loop-i l = (l.i ≤ l.count) × (l.most ≡ largest (tabulate (λ (j : ℕ). get_or l.labels (2 * j + 1) 0) l.i))
-
-abbrev pub decreases-loop-i : goal.decreases-loop-i
-decreases-loop-i l = l.count - l.i
+invariant-loop-i l = l.most ≡ largest (tabulate (λ (j : ℕ). get_or l.labels (2 * j + 1) 0) l.i)

@@ -1,21 +1,21 @@
 -- `binomials::numerators` meets its contract. Assumes nothing.
 use Prim.Native.Nat.{ℕ, ◌+◌, ◌*◌}
 use native.Mathlib.Omega.{arith}
-use mathlib.Core.Path.{refl, sym, ap}
+use mathlib.Core.Path.{refl, ap}
 use lib.ListN.{length-set}
 use Rattle.lists.proofs.Tabulate.{fill_none, fill_more, filled_front}
 use Rattle.binomials.proofs.numerators.Goals as goal
 
 pub loop-k-init : goal.loop-k-init
 loop-k-init c =
-    (omega arith, fill_none _ _, refl)
+    (fill_none _ _, refl)
 
 pub loop-k-preserved : goal.loop-k-preserved
 loop-k-preserved c =
     let L = c.loop-k in
-    (omega arith, fill_more _ _ _ _ _ (omega (arith, L.invariant.2)) L.invariant.1 (ap (λ (n : ℕ). 274877906944 + n) c.coefficient.ensures.0), simp length-set L.invariant.2)
+    (fill_more _ _ _ _ _ (omega (arith, L.invariant.1, c.requires)) L.invariant.0 (rw c.from.ensures (ap (λ (n : ℕ). 274877906944 + n) c.coefficient.ensures.0)), simp length-set L.invariant.1)
 
 pub returns : goal.returns
 returns c =
     let L = c.loop-k in
-    (sym L.invariant.2, filled_front _ (2 * c.args.r + 1) L.k _ _ L.invariant.0 (omega (arith, c.loop-k-test.false)) L.invariant.1)
+    (L.invariant.1, filled_front _ (2 * c.args.r + 1) L.k _ _ L.auto.k-end c.loop-k-test.false L.invariant.0)

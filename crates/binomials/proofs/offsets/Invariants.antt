@@ -1,5 +1,5 @@
 -- `binomials::offsets` meets its contract. Assumes nothing.
-use Prim.Native.Nat.{ℕ, ◌-◌, ◌+◌, ◌*◌, ◌≤◌}
+use Prim.Native.Nat.{ℕ, ◌-◌, ◌+◌}
 use mathlib.Core.Path.{◌≡◌}
 use mathlib.Core.List.{◌++◌}
 use lib.ListN.{length, drop}
@@ -7,7 +7,4 @@ use Rattle.lists.specs.Tabulate.{tabulate}
 use Rattle.binomials.proofs.offsets.Given as goal
 
 abbrev pub invariant-loop-k : goal.invariant-loop-k
-invariant-loop-k l = (l.k ≤ 2 * l.r + 1) × (l.held ≡ tabulate (λ (i : ℕ). 15 + i - l.r) l.k ++ drop l.k l.initial.held) × (length l.held ≡ length l.initial.held)
-
-abbrev pub decreases-loop-k : goal.decreases-loop-k
-decreases-loop-k l = 2 * l.r + 1 - l.k
+invariant-loop-k l = (l.held ≡ tabulate (λ (i : ℕ). 15 + i - l.r) l.k ++ drop l.k l.initial.held) × (31 ≡ length l.held)

@@ -4,4 +4,4 @@ use Rattle.capi.proofs.hejslopi_filter_file_limited.Goals as goal
 
 pub returns : goal.returns
 returns c =
-    filters_file c.filter_file.ensures c.file.ensures
+    filters_file c.filter_file.ensures c.tell.ensures

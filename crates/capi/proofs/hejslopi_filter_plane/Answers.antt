@@ -4,4 +4,4 @@ use Rattle.capi.proofs.hejslopi_filter_plane.Goals as goal
 
 pub returns : goal.returns
 returns c =
-    filters_plane c.filter_plane.ensures c.plane.ensures
+    filters_plane c.filter_plane.ensures c.tell.ensures

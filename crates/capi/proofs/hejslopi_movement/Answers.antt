@@ -4,4 +4,4 @@ use Rattle.capi.proofs.hejslopi_movement.Goals as goal
 
 pub returns : goal.returns
 returns c =
-    counts_movement c.count_movement.ensures c.movement.ensures
+    counts_movement c.count_movement.ensures c.tell.ensures

@@ -5,4 +5,4 @@ use Rattle.capi.proofs.hejslopi_needs.Goals as goal
 
 pub returns : goal.returns
 returns c =
-    told needs_told c.needs.ensures c.needs-2.ensures
+    told needs_told c.needs.ensures c.tell.ensures

@@ -5,4 +5,4 @@ use Rattle.capi.proofs.hejslopi_read_recipe.Goals as goal
 
 pub returns : goal.returns
 returns c =
-    told recipe_told c.read_recipe.ensures c.recipe.ensures
+    told recipe_told c.read_recipe.ensures c.tell.ensures

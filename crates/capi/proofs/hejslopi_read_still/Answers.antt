@@ -5,4 +5,4 @@ use Rattle.capi.proofs.hejslopi_read_still.Goals as goal
 
 pub returns : goal.returns
 returns c =
-    told still_told c.read_still.ensures c.still.ensures
+    told still_told c.read_still.ensures c.tell.ensures

@@ -4,4 +4,4 @@ use Rattle.capi.proofs.hejslopi_write_still.Goals as goal
 
 pub returns : goal.returns
 returns c =
-    writes c.write_still.ensures c.written.ensures
+    writes c.write_still.ensures c.tell.ensures

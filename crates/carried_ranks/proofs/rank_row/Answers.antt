@@ -1,35 +1,46 @@
 -- `carried_ranks::rank_row` meets its contract: the rows placed, the first window counted, and then sample by sample. Assumes nothing.
-use Prim.Native.Nat.{◌+◌, ◌-◌, ◌*◌}
+use Prim.Native.Nat.{◌+◌, ◌-◌}
 use native.Mathlib.Omega.{arith}
-use mathlib.Core.Path.{refl}
-use Rattle.window_columns.specs.Rows.{row_starts}
-use Rattle.kept_planes.proofs.Planes.{part_behind, plane_behind, plane_small}
-use Rattle.carried_ranks.proofs.RankWindow.{part_front, rows-lent}
+use mathlib.Core.Path.{◌≡◌, sym}
+use Rattle.histograms.proofs.Below.{total-none}
+use Rattle.lists.proofs.Stored.{stored_none, stored_more}
+use Rattle.carried_ranks.proofs.RankWindow.{rows-placed, level-there, rank-found}
 use Rattle.carried_ranks.proofs.rank_row.Goals as goal
-
-pub overflow_mul-n : goal.overflow_mul-n
-overflow_mul-n c =
-    record { fits = omega (arith, plane_small c.requires.1) }
-
-pub overflow_add-n : goal.overflow_add-n
-overflow_add-n c =
-    record { fits = omega (arith, plane_small c.requires.1) }
-
-pub slice_bounds-count_window-end : goal.slice_bounds-count_window-end
-slice_bounds-count_window-end c =
-    plane_behind _ _ refl c.requires.1
 
 pub count_window-requires : goal.count_window-requires
 count_window-requires c =
     let a = c.args in
     let p = c.requires in
-    let n = a.frame.height * a.frame.width in
-    rw (part_behind n a.work.now) (p.1, rows-lent a.frame _ (15 - a.window.s + a.v) (2 * a.window.s + 1) c.place_rows-inside.result _ p.1 c.place_rows-inside.ensures.1, omega (arith, p.3), omega (arith, p.4), omega arith, p.0)
+    let near = a.rank.window.near in
+    (p.0, rows-placed a.frame _ _ _ _ _ p.0 c.place_rows-inside.ensures.1, omega (arith, near), omega (arith, near), omega arith, p.2)
 
-pub rank_along-requires : goal.rank_along-requires
-rank_along-requires c =
+pub loop-u-init : goal.loop-u-init
+loop-u-init c =
+    let left : 15 - c.args.rank.window.r + 0 ≡ 15 - c.args.rank.window.r = omega arith in
+    (stored_none _ _ _, rw left (rw c.place_rows-inside.ensures.1 at c.count_window.ensures), sym (total-none _))
+
+pub reach-here-requires : goal.reach-here-requires
+reach-here-requires c =
+    let a = c.args in
+    let L = c.loop-u in
+    level-there a.frame a.plane.now a.rank L.u a.v L.counts L.invariant.1 L.at (omega (arith, c.well_formed)) (λ i. omega (arith, c.type_inv.plane i)) L.invariant.2
+
+pub next_window-at-requires : goal.next_window-at-requires
+next_window-at-requires c =
     let a = c.args in
     let p = c.requires in
-    let n = a.frame.height * a.frame.width in
-    let starts = part_front c.place_rows-inside.result _ (row_starts a.frame (15 - a.window.s + a.v) (2 * a.window.s + 1)) c.place_rows-inside.ensures.1 in
-    (p.1, p.2, p.3, p.4, p.5, p.6, starts, rw (part_behind n a.work.now) at c.count_window.ensures)
+    let L = c.loop-u in
+    let near = a.rank.window.near in
+    let back : 16 - a.rank.window.r + L.u - 1 ≡ 15 - a.rank.window.r + L.u = omega (arith, near) in
+    let rows = c.place_rows-inside.ensures.1 in
+    (p.0, rows-placed a.frame _ _ _ _ _ p.0 rows, omega arith, omega (arith, near), omega (arith, near), omega (arith, near), omega (arith, p.0.width, c.loop-u-test.true), rw (rows, back) L.invariant.1, c.reach-here.ensures.summed)
+
+pub loop-u-preserved : goal.loop-u-preserved
+loop-u-preserved c =
+    let a = c.args in
+    let L = c.loop-u in
+    let on : 15 - a.rank.window.r + (L.u + 1) ≡ 16 - a.rank.window.r + L.u = omega (arith, a.rank.window.near) in (
+      stored_more L.invariant.0 c.requires.3 c.loop-u-test.true (rank-found a.frame a.plane.now a.rank L.u a.v L.counts L.invariant.1 c.reach-here.result (omega arith) c.reach-here.ensures),
+      rw on (rw c.place_rows-inside.ensures.1 at c.next_window-at.ensures.0),
+      c.next_window-at.ensures.1,
+    )

@@ -7,6 +7,6 @@ pub returns-then-letter-eq108 : goal.returns-then-letter-eq108
 returns-then-letter-eq108 c =
     search (rules, eq-eqb)
 
-pub returns : goal.returns
-returns c =
+pub returns-else-letter-eq108 : goal.returns-else-letter-eq108
+returns-else-letter-eq108 c =
     search (rules, ne_eqb)

@@ -24,13 +24,13 @@ near s w x f h = omega (arith, product w x f h, abs_add s (w *ℤ pos x), abs_mu
 
 pub overflow_mul-result : goal.overflow_mul-result
 overflow_mul-result c =
-    product_fits (of-bits c.ranges.sum) (of-bits c.ranges.weight) (sample_bits _ c.ranges.sample) (room c.args.sum c.args.weight _ c.ranges.sample c.requires.0 c.requires.1)
+    rw c.from.ensures (product_fits (of-bits c.ranges.sum) (of-bits c.ranges.weight) (sample_bits _ c.ranges.sample) (room c.args.sum c.args.weight _ c.ranges.sample c.requires.0 c.requires.1))
 
 pub overflow_add-result : goal.overflow_add-result
 overflow_add-result c =
-    sum_fits (of-bits c.ranges.sum) (of-bits c.ranges.weight) (sample_bits _ c.ranges.sample) (room c.args.sum c.args.weight _ c.ranges.sample c.requires.0 c.requires.1)
+    rw c.from.ensures (sum_fits (of-bits c.ranges.sum) (of-bits c.ranges.weight) (sample_bits _ c.ranges.sample) (room c.args.sum c.args.weight _ c.ranges.sample c.requires.0 c.requires.1))
 
 pub returns : goal.returns
 returns c =
     let e = sum_is (of-bits c.ranges.sum) (of-bits c.ranges.weight) (sample_bits _ c.ranges.sample) (room c.args.sum c.args.weight _ c.ranges.sample c.requires.0 c.requires.1) in
-    (e, rw e (near c.args.sum c.args.weight _ c.ranges.sample c.requires.1))
+    rw c.from.ensures (e, rw e (near c.args.sum c.args.weight _ c.ranges.sample c.requires.1))

@@ -1,10 +1,6 @@
 -- `edges::response_of` meets its contract: weight by weight. Assumes nothing.
-use Prim.Native.Nat.{◌-◌}
 use Rattle.edges.proofs.Responses.{Summed}
 use Rattle.edges.proofs.response_of.Given as goal
 
 abbrev pub invariant-loop-i : goal.invariant-loop-i
 invariant-loop-i l = Summed l.kernel l.square l.i l.sum
-
-abbrev pub decreases-loop-i : goal.decreases-loop-i
-decreases-loop-i l = 9 - l.i

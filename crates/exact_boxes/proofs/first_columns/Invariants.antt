@@ -1,14 +1,11 @@
 -- `exact_boxes::first_columns` meets its contract: row by row. Assumes nothing.
-use Prim.Native.Nat.{◌+◌, ◌*◌, ◌-◌, ◌≤◌}
+use Prim.Native.Nat.{◌+◌, ◌-◌}
 use mathlib.Core.Path.{◌≡◌}
 use mathlib.Core.List.{◌++◌}
-use lib.ListN.{length, drop}
+use lib.ListN.{drop}
 use Rattle.lists.specs.Tabulate.{tabulate}
 use Rattle.exact_boxes.proofs.ColumnLaws.{rows_sum}
 use Rattle.exact_boxes.proofs.first_columns.Given as goal
 
 abbrev pub invariant-loop-j : goal.invariant-loop-j
-invariant-loop-j l = (l.j ≤ 2 * l.s + 1) × (l.sums ≡ tabulate (rows_sum l.frame l.plane (15 - l.s) l.j) (l.frame.width + 30) ++ drop (l.frame.width + 30) l.initial.sums) × (length l.sums ≡ length l.initial.sums) × (length l.row ≡ length l.initial.row)
-
-abbrev pub decreases-loop-j : goal.decreases-loop-j
-decreases-loop-j l = 2 * l.s + 1 - l.j
+invariant-loop-j l = l.sums ≡ tabulate (rows_sum l.frame l.plane (15 - l.s) l.j) (l.frame.width + 30) ++ drop (l.frame.width + 30) l.initial.sums

@@ -32,4 +32,4 @@ taps_of-requires c =
 
 pub returns : goal.returns
 returns c =
-    (c.taps_of.ensures.0 ∙ c.kernel_on.ensures.0.is, c.taps_of.ensures.1)
+    c.taps_of.ensures ∙ c.kernel_on.ensures.0.is

@@ -1,16 +1,14 @@
 -- `exact_weights::denominator` meets its contract: two numbers of 16 bits. Assumes nothing.
-use Prim.Native.Nat.{◌*◌, ◌≤◌, ◌^◌}
-use native.Mathlib.Nat.{mul-le-mul}
-use native.Mathlib.Omega.{arith}
-use mathlib.Core.Path.{refl}
+use Rattle.std.proofs.Common.{ℕ, ◌*◌, ◌≤◌, ◌^◌, refl, arith, mul-le-mul}
 use Rattle.exact_weights.proofs.denominator.Goals as goal
+
+small : {a b : ℕ} → a ≤ 65535 → b ≤ 65535 → a * b ≤ 2 ^ 32
+small h k = omega (arith, mul-le-mul {n₂ = 65535} {m₂ = 65535} h k)
 
 pub overflow_mul-result : goal.overflow_mul-result
 overflow_mul-result c =
-    let small : c.args.across.divisor * c.args.down.divisor ≤ 2 ^ 32 = omega (arith, mul-le-mul {n₂ = 65535} {m₂ = 65535} c.requires.0.low c.requires.1.low) in
-    record { fits = omega (arith, small) }
+    record { fits = omega (arith, small c.args.across.low c.args.down.low) }
 
 pub returns : goal.returns
 returns c =
-    let small : c.args.across.divisor * c.args.down.divisor ≤ 2 ^ 32 = omega (arith, mul-le-mul {n₂ = 65535} {m₂ = 65535} c.requires.0.low c.requires.1.low) in
-    (refl, small)
+    (refl, small c.args.across.low c.args.down.low)

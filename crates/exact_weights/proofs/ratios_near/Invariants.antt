@@ -1,5 +1,5 @@
 -- `exact_weights::ratios_near` meets its contract: row by row, and the first row that is not near decides. Assumes nothing.
-use Prim.Native.Nat.{ℕ, ◌-◌, ◌≤◌}
+use Prim.Native.Nat.{ℕ}
 use mathlib.Core.Path.{◌≡◌}
 use mathlib.Core.List.{List}
 use lib.ListN.{length}
@@ -9,7 +9,7 @@ use Rattle.model.specs.Exact.{numerator}
 use Rattle.frame.specs.declared.Frame.{Frame}
 use Rattle.frame.specs.Framed.{neighbours}
 use Rattle.near_rows.proofs.RowLaws.{RowsNear}
-use Rattle.whole_taps.specs.declared.Taps.{Taps}
+use Rattle.whole_taps.specs.declared.held.Taps.{Taps}
 use Rattle.whole_taps.specs.Whole.{kernel_is}
 use Rattle.exact_weights.proofs.ratios_near.Given as goal
 
@@ -18,7 +18,4 @@ abbrev pub at : Frame → Taps → Taps → List ℕ → ℕ → ℕ → ℤ
 at frame across down plane u v = numerator (weighted (kernel_is across) (kernel_is down)) (neighbours frame plane u v)
 
 abbrev pub invariant-loop-v : goal.invariant-loop-v
-invariant-loop-v l = (l.v ≤ l.h) × RowsNear l.c l.n l.w l.h l.channel l.received (at l.frame l.across l.down l.plane) l.v × (8224 ≡ length l.row) × (8224 ≡ length l.sums) × (8192 ≡ length l.wide)
-
-abbrev pub decreases-loop-v : goal.decreases-loop-v
-decreases-loop-v l = l.h - l.v
+invariant-loop-v l = RowsNear l.c l.n l.w l.h l.channel l.received (at l.frame l.across l.down l.plane) l.v × (8224 ≡ length l.row) × (8224 ≡ length l.sums) × (8192 ≡ length l.wide)

@@ -25,7 +25,7 @@ all_small f n M h = pairs_at {R = λ (y x : ℤ). nat_abs y ≤ M} (pos 0) (pos 
 
 pub sums_down-requires : goal.sums_down-requires
 sums_down-requires c =
-    let p = c.requires in (p.0, p.2, p.3, p.4, p.5)
+    let p = c.requires in (p.0, p.1, p.2, p.3)
 
 pub slice_bounds-sums_across-end : goal.slice_bounds-sums_across-end
 slice_bounds-sums_across-end c =
@@ -41,11 +41,10 @@ sums_across-requires c =
     let p = c.requires in
     let n = a.frame.width + 30 in
     let t = front-is _ _ _ _ c.sums_down.ensures in (
-      p.1,
       p.0.width.1,
       rw (t, length-tabulate _ n) (omega arith),
-      p.6,
-      rw t (all_small _ n 134217728 (λ x. down_small p.2 (λ o. padded a.frame a.plane.now x (a.v + o))
+      p.4,
+      rw t (all_small _ n 134217728 (λ x. down_small a.down (λ o. padded a.frame a.plane.now x (a.v + o))
           (λ o. padded-le a.frame a.plane.now x (a.v + o) (omega (arith, c.well_formed)) (λ i. omega (arith, (c.type_inv.plane i).fits))))),
     )
 
@@ -55,5 +54,5 @@ returns c =
     let w = a.frame.width in
     let t = front-is _ _ _ _ c.sums_down.ensures in
     λ u b. filled_at _ w _ _ (pos 0) u c.sums_across.ensures b
-    ∙ held_ext a.across.offsets a.across.weights _ _ a.across.len (λ i k. rw t (get_d_tabulate _ (w + 30) (u + get_or a.across.offsets i 0) (pos 0) (omega (arith, b, c.requires.1.near i k))))
+    ∙ held_ext a.across.offsets a.across.weights _ _ a.across.len (λ i k. rw t (get_d_tabulate _ (w + 30) (u + get_or a.across.offsets i 0) (pos 0) (omega (arith, b, a.across.near i k))))
     ∙ numerator-is a.across a.down a.frame a.plane.now u a.v

@@ -2,14 +2,14 @@
 use Prim.Native.Nat.{◌+◌}
 use native.Mathlib.Nat.{le_antisymm}
 use native.Mathlib.Omega.{arith}
-use mathlib.Core.Path.{◌≡◌, refl, ap, ◌∙◌}
+use mathlib.Core.Path.{◌≡◌, ap, ◌∙◌}
 use mathlib.Core.List.{List, ◌++◌}
 use mir.Syntax.{w32}
 use mir.Val.{to_z, of_z}
 use lib.ListN.{get_or, drop, length-drop}
 use lib.IntN.{ℤ, pos}
 use Rattle.lists.proofs.Part.{tail_mid}
-use Rattle.lists.proofs.Tabulate.{length_filled, filled_behind, filled_at, tabulate_ext}
+use Rattle.lists.proofs.Tabulate.{filled_behind, filled_at, tabulate_ext}
 use Rattle.tap_sums.specs.HeldSums.{held_sum}
 use Rattle.tap_sums.proofs.SumLaws.{weight_size}
 use Rattle.tap_sums.proofs.PartialSums.{partial, partial_more, partial_size, shifted}
@@ -18,29 +18,13 @@ use borrow.Author.Rules.{rules}
 use Rattle.exact_weights.proofs.sums_across.Invariants.{at_offset}
 use Rattle.exact_weights.proofs.sums_across.Goals as goal
 
-pub bounds-offsets-k : goal.bounds-offsets-k
-bounds-offsets-k c =
-    omega (arith, c.loop-k-test.true, c.requires.0.few)
-
-pub overflow_cast-at : goal.overflow_cast-at
-overflow_cast-at c =
-    record { fits = omega (arith, c.requires.0.near c.loop-k.k c.loop-k-test.true) }
-
-pub offset_bounds-sums-at : goal.offset_bounds-sums-at
-offset_bounds-sums-at c =
-    record { fits = omega (arith, c.requires.0.near c.loop-k.k c.loop-k-test.true) }
-
 pub slice_bounds-add_tap-count : goal.slice_bounds-add_tap-count
 slice_bounds-add_tap-count c =
-    omega (arith, c.requires.0.near c.loop-k.k c.loop-k-test.true, c.requires.2)
+    omega (arith, c.args.across.near c.loop-k.k c.loop-k-test.true, c.requires.1)
 
 pub slice_bounds-add_tap-start : goal.slice_bounds-add_tap-start
 slice_bounds-add_tap-start c =
-    omega (arith, c.requires.0.near c.loop-k.k c.loop-k-test.true, c.requires.2)
-
-pub bounds-weights-k : goal.bounds-weights-k
-bounds-weights-k c =
-    omega (arith, c.loop-k-test.true, c.requires.0.few)
+    omega (arith, c.args.across.near c.loop-k.k c.loop-k-test.true, c.requires.1)
 
 pub add_tap-requires : goal.add_tap-requires
 add_tap-requires c =
@@ -50,37 +34,34 @@ add_tap-requires c =
     let t = c.loop-k-test.true in
     let at = get_or a.across.offsets L.k 0 in
     let weight : to_z w32 (of_z w32 (get_or a.across.weights L.k (pos 0))) ≡ get_or a.across.weights L.k (pos 0) = search rules in (
-      omega (arith, L.invariant.2, p.3),
-      rw (tail_mid at a.sums.now, length-drop) (omega (arith, p.0.near L.k t, p.2)),
-      rw weight (omega (arith, weight_size a.across.weights L.k a.across.len t, size_small p.0)),
-      λ u b. rw (filled_at _ a.w _ L.wide (pos 0) u L.invariant.1 b)
-          (omega (arith, partial_size a.across.offsets a.across.weights (at_offset a.sums.now) (pos 0) 134217728 (λ v o. p.4 (v + o)) L.k a.across.len L.invariant.0 (omega (arith, size_small p.0)) u)),
-      λ u b. rw (shifted a.sums.now at u (pos 0)) (p.4 (u + at)),
+      omega (arith, p.2),
+      rw (tail_mid at a.sums.now, length-drop) (omega (arith, a.across.near L.k t, p.1)),
+      rw weight (omega (arith, weight_size a.across.weights L.k a.across.len t, size_small a.across)),
+      λ u b. (
+        rw (filled_at _ a.w _ L.wide (pos 0) u L.invariant b)
+            (omega (arith, partial_size a.across.offsets a.across.weights (at_offset a.sums.now) (pos 0) 134217728 (λ v o. p.3 (v + o)) L.k a.across.len (omega (arith, t)) (omega (arith, size_small a.across)) u)),
+        rw (shifted a.sums.now at u (pos 0)) (p.3 (u + at)),
+      ),
     )
 
 pub loop-k-preserved : goal.loop-k-preserved
 loop-k-preserved c =
     let a = c.args in
     let L = c.loop-k in
-    let e = c.add_tap.ensures in
     let at = get_or a.across.offsets L.k 0 in
-    let weight : to_z w32 (of_z w32 (get_or a.across.weights L.k (pos 0))) ≡ get_or a.across.weights L.k (pos 0) = search rules in (
-      omega (arith, c.loop-k-test.true),
-      partial_more a.across.offsets a.across.weights (at_offset a.sums.now) (pos 0) L.k a.w _ L.wide _ _ _ weight
-          (λ u b. shifted a.sums.now at u (pos 0)) L.invariant.1 e,
-      rw e (length_filled _ a.w L.wide (omega (arith, L.invariant.2, c.requires.3)) ∙ L.invariant.2),
-    )
+    let weight : to_z w32 (of_z w32 (get_or a.across.weights L.k (pos 0))) ≡ get_or a.across.weights L.k (pos 0) = search rules in
+    partial_more a.across.offsets a.across.weights (at_offset a.sums.now) (pos 0) L.k a.w _ L.wide _ _ _ weight (λ u b. shifted a.sums.now at u (pos 0)) L.invariant c.add_tap.ensures
 
 pub loop-k-init : goal.loop-k-init
 unfolding partial held_sum
 loop-k-init c =
-    let e = c.start.ensures in
-    (omega arith, e ∙ rw (filled_behind _ _ _ _ e), refl)
+    let e = c.start_at.ensures in
+    e ∙ rw (filled_behind _ _ _ _ e)
 
 pub returns : goal.returns
 returns c =
     let a = c.args in
     let L = c.loop-k in
-    let k = le_antisymm L.invariant.0 c.loop-k-test.false in
-    rw (filled_behind _ a.w _ _ c.start.ensures) at (rw k at L.invariant.1)
+    let k = le_antisymm L.auto.k-end c.loop-k-test.false in
+    rw (filled_behind _ a.w _ _ c.start_at.ensures) at (rw k at L.invariant)
     ∙ ap (λ (l : List ℤ). l ++ drop a.w a.wide.now) (tabulate_ext _ _ a.w (λ u _. all_taps a.across.offsets a.across.weights (at_offset a.sums.now) a.across.len u))

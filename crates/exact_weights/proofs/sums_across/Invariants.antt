@@ -1,8 +1,8 @@
 -- `exact_weights::sums_across` meets its contract: tap by tap. Assumes nothing.
-use Prim.Native.Nat.{ℕ, ◌+◌, ◌-◌, ◌≤◌}
+use Prim.Native.Nat.{ℕ, ◌+◌}
 use mathlib.Core.Path.{◌≡◌}
 use mathlib.Core.List.{List, ◌++◌}
-use lib.ListN.{length, get_or, drop}
+use lib.ListN.{get_or, drop}
 use lib.IntN.{ℤ, pos}
 use Rattle.lists.specs.Tabulate.{tabulate}
 use Rattle.tap_sums.proofs.PartialSums.{partial}
@@ -13,7 +13,4 @@ abbrev pub at_offset : List ℤ → ℕ → ℕ → ℤ
 at_offset sums u o = get_or sums (u + o) (pos 0)
 
 abbrev pub invariant-loop-k : goal.invariant-loop-k
-invariant-loop-k l = (l.k ≤ l.len) × (l.wide ≡ tabulate (partial l.offsets l.weights (at_offset l.sums) (pos 0) l.k) l.w ++ drop l.w l.initial.wide) × (length l.wide ≡ length l.initial.wide)
-
-abbrev pub decreases-loop-k : goal.decreases-loop-k
-decreases-loop-k l = l.len - l.k
+invariant-loop-k l = l.wide ≡ tabulate (partial l.across.offsets l.across.weights (at_offset l.sums) (pos 0) l.k) l.w ++ drop l.w l.initial.wide

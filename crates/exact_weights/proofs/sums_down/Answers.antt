@@ -2,7 +2,7 @@
 use Prim.Native.Nat.{◌+◌}
 use native.Mathlib.Nat.{le_antisymm}
 use native.Mathlib.Omega.{arith}
-use mathlib.Core.Path.{◌≡◌, refl, ap, ◌∙◌}
+use mathlib.Core.Path.{◌≡◌, ap, ◌∙◌}
 use mathlib.Core.List.{List, ◌++◌}
 use mir.Syntax.{w32}
 use mir.Val.{to_z, of_z}
@@ -19,26 +19,14 @@ use borrow.Author.Rules.{rules}
 use Rattle.exact_weights.proofs.sums_down.Invariants.{reached}
 use Rattle.exact_weights.proofs.sums_down.Goals as goal
 
-pub bounds-offsets-k : goal.bounds-offsets-k
-bounds-offsets-k c =
-    omega (arith, c.loop-k-test.true, c.requires.1.few)
-
-pub overflow_cast-offsets : goal.overflow_cast-offsets
-overflow_cast-offsets c =
-    record { fits = omega (arith, c.requires.1.near c.loop-k.k c.loop-k-test.true) }
-
 pub overflow_add-v : goal.overflow_add-v
 overflow_add-v c =
-    record { fits = omega (arith, c.requires.1.near c.loop-k.k c.loop-k-test.true, c.requires.2) }
+    record { fits = omega (arith, c.args.down.near c.loop-k.k c.loop-k-test.true, c.requires.1) }
 
 pub padded_row-requires : goal.padded_row-requires
 padded_row-requires c =
     let p = c.requires in
-    (p.0, omega (arith, p.1.near c.loop-k.k c.loop-k-test.true, p.2), omega (arith, p.3, c.loop-k.invariant.3))
-
-pub bounds-weights-k : goal.bounds-weights-k
-bounds-weights-k c =
-    omega (arith, c.loop-k-test.true, c.requires.1.few)
+    (p.0, omega (arith, c.args.down.near c.loop-k.k c.loop-k-test.true, p.1), omega (arith, p.2))
 
 pub add_tap-requires : goal.add_tap-requires
 add_tap-requires c =
@@ -47,15 +35,15 @@ add_tap-requires c =
     let L = c.loop-k in
     let n = a.frame.width + 30 in
     let weight : to_z w32 (of_z w32 (get_or a.down.weights L.k (pos 0))) ≡ get_or a.down.weights L.k (pos 0) = search rules in (
-      omega (arith, L.invariant.2, p.4),
-      rw c.padded_row.ensures (omega (arith, length_filled (λ x. padded a.frame a.plane.now x (a.v + get_or a.down.offsets L.k 0)) n L.row (omega (arith, p.3, L.invariant.3)), p.3, L.invariant.3)),
-      rw weight (omega (arith, weight_size a.down.weights L.k a.down.len c.loop-k-test.true, size_small p.1)),
-      λ u b. rw (filled_at _ n _ L.sums (pos 0) u L.invariant.1 b)
+      omega (arith, p.3),
+      rw c.padded_row.ensures (omega (arith, length_filled (λ x. padded a.frame a.plane.now x (a.v + get_or a.down.offsets L.k 0)) n L.row (omega (arith, p.2)), p.2)),
+      rw weight (omega (arith, weight_size a.down.weights L.k a.down.len c.loop-k-test.true, size_small a.down)),
+      λ u b. rw (filled_at _ n _ L.sums (pos 0) u L.invariant b)
           (omega (
             arith,
             partial_size a.down.offsets a.down.weights (reached a.frame a.plane.now a.v) (pos 0) 255
                 (λ x o. padded-le a.frame a.plane.now x (a.v + o) (omega (arith, c.well_formed)) (λ i. omega (arith, (c.type_inv.plane i).fits)))
-                L.k a.down.len L.invariant.0 (omega (arith, size_small p.1)) u,
+                L.k a.down.len (omega (arith, c.loop-k-test.true)) (omega (arith, size_small a.down)) u,
           )),
     )
 
@@ -65,27 +53,20 @@ loop-k-preserved c =
     let p = c.requires in
     let L = c.loop-k in
     let n = a.frame.width + 30 in
-    let e = c.add_tap.ensures in
-    let r = c.padded_row.ensures in
-    let weight : to_z w32 (of_z w32 (get_or a.down.weights L.k (pos 0))) ≡ get_or a.down.weights L.k (pos 0) = search rules in (
-      omega (arith, c.loop-k-test.true),
-      partial_more a.down.offsets a.down.weights (reached a.frame a.plane.now a.v) (pos 0) L.k n _ L.sums _ _ _ weight
-          (λ u b. ap pos (filled_at _ n L.row _ 0 u r b)) L.invariant.1 e,
-      rw e (length_filled _ n L.sums (omega (arith, L.invariant.2, p.4)) ∙ L.invariant.2),
-      rw r (length_filled _ n L.row (omega (arith, L.invariant.3, p.3)) ∙ L.invariant.3),
-    )
+    let weight : to_z w32 (of_z w32 (get_or a.down.weights L.k (pos 0))) ≡ get_or a.down.weights L.k (pos 0) = search rules in
+    partial_more a.down.offsets a.down.weights (reached a.frame a.plane.now a.v) (pos 0) L.k n _ L.sums _ _ _ weight (λ u b. ap pos (filled_at _ n L.row _ 0 u c.padded_row.ensures b)) L.invariant c.add_tap.ensures
 
 pub loop-k-init : goal.loop-k-init
 unfolding partial held_sum
 loop-k-init c =
     let e = c.start_at.ensures in
-    (omega arith, e ∙ rw (filled_behind _ _ _ _ e), refl, refl)
+    e ∙ rw (filled_behind _ _ _ _ e)
 
 pub returns : goal.returns
 returns c =
     let a = c.args in
     let L = c.loop-k in
-    let k = le_antisymm L.invariant.0 c.loop-k-test.false in
+    let k = le_antisymm L.auto.k-end c.loop-k-test.false in
     let n = a.frame.width + 30 in
-    rw (filled_behind _ n _ _ c.start_at.ensures) at (rw k at L.invariant.1)
+    rw (filled_behind _ n _ _ c.start_at.ensures) at (rw k at L.invariant)
     ∙ ap (λ (l : List ℤ). l ++ drop n a.sums.now) (tabulate_ext _ _ n (λ x _. all_taps a.down.offsets a.down.weights (reached a.frame a.plane.now a.v) a.down.len x))

@@ -1,8 +1,8 @@
 -- `exact_weights::sums_down` meets its contract: tap by tap, each with the padded row that it reaches. Assumes nothing.
-use Prim.Native.Nat.{ℕ, ◌+◌, ◌-◌, ◌≤◌}
+use Prim.Native.Nat.{ℕ, ◌+◌}
 use mathlib.Core.Path.{◌≡◌}
 use mathlib.Core.List.{List, ◌++◌}
-use lib.ListN.{length, drop}
+use lib.ListN.{drop}
 use lib.IntN.{ℤ, pos}
 use Rattle.lists.specs.Tabulate.{tabulate}
 use Rattle.frame.specs.declared.Frame.{Frame}
@@ -15,7 +15,4 @@ abbrev pub reached : Frame → List ℕ → ℕ → ℕ → ℕ → ℤ
 reached frame plane v x o = pos (padded frame plane x (v + o))
 
 abbrev pub invariant-loop-k : goal.invariant-loop-k
-invariant-loop-k l = (l.k ≤ l.len) × (l.sums ≡ tabulate (partial l.offsets l.weights (reached l.frame l.plane l.v) (pos 0) l.k) l.n ++ drop l.n l.initial.sums) × (length l.sums ≡ length l.initial.sums) × (length l.row ≡ length l.initial.row)
-
-abbrev pub decreases-loop-k : goal.decreases-loop-k
-decreases-loop-k l = l.len - l.k
+invariant-loop-k l = l.sums ≡ tabulate (partial l.down.offsets l.down.weights (reached l.frame l.plane l.v) (pos 0) l.k) l.n ++ drop l.n l.initial.sums

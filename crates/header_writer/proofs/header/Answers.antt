@@ -1,36 +1,17 @@
--- `header_writer::header` meets its contract. Assumes nothing.
-use native.Mathlib.Omega.{arith}
-use mathlib.Core.List.{[], ◌∷◌, ◌++◌}
-use Rattle.header_writer.specs.Heading.{decimal, magic_line, header_bytes}
-use Rattle.header_writer.proofs.HeadingLaws.{decimal-length, sized_extended}
+-- `header_writer::header` meets its contract: with all that is pushed it stays within 17 bytes. Assumes nothing.
+use Rattle.std.proofs.Common.{arith, length-append}
+use Rattle.header_writer.specs.Heading.{magic_line}
+use Rattle.header_writer.proofs.HeadingLaws.{decimal_few}
 use Rattle.header_writer.proofs.header.Goals as goal
 
-pub with_number-requires : goal.with_number-requires
+pub push_number-requires-2 : goal.push_number-requires-2
 unfolding magic_line
-with_number-requires c =
-    omega (arith, c.opening.ensures.size, decimal-length 3 c.args.width (omega arith))
+push_number-requires-2 c =
+    rw (c.push.ensures, c.push_number.ensures, c.extend_from_slice.ensures, c.new-head.ensures, c.magic.ensures)
+    (simp length-append (omega (arith, decimal_few c.args.width c.requires.0, decimal_few c.args.height c.requires.1)))
 
-pub with_byte-first-requires : goal.with_byte-first-requires
+pub extend_from_slice-requires-2 : goal.extend_from_slice-requires-2
 unfolding magic_line
-with_byte-first-requires c =
-    omega (arith, c.opening.ensures.size, c.with_number.ensures.size, decimal-length 3 c.args.width (omega arith))
-
-pub with_number-requires-2 : goal.with_number-requires-2
-unfolding magic_line
-with_number-requires-2 c =
-    omega (arith, c.opening.ensures.size, c.with_number.ensures.size, c.with_byte-first.ensures.size, decimal-length 3 c.args.width (omega arith), decimal-length 3 c.args.height (omega arith))
-
-pub closing-requires : goal.closing-requires
-unfolding magic_line
-closing-requires c =
-    omega (arith, c.opening.ensures.size, c.with_number.ensures.size, c.with_byte-first.ensures.size, c.with_number-2.ensures.size, decimal-length 3 c.args.width (omega arith), decimal-length 3 c.args.height (omega arith))
-
-pub returns : goal.returns
-unfolding header_bytes
-returns c =
-    let a = c.args in
-    let magic = magic_line a.channels in
-    sized_extended (magic ++ decimal a.width ++ (32 ∷ []) ++ decimal a.height) (10 ∷ 50 ∷ 53 ∷ 53 ∷ 10 ∷ [])
-    (sized_extended (magic ++ decimal a.width ++ (32 ∷ [])) (decimal a.height)
-    (sized_extended (magic ++ decimal a.width) (32 ∷ []) (sized_extended magic (decimal a.width) c.opening.ensures c.with_number.ensures) c.with_byte-first.ensures) c.with_number-2.ensures)
-    c.closing.ensures
+extend_from_slice-requires-2 c =
+    rw (c.push_number-2.ensures, c.push.ensures, c.push_number.ensures, c.extend_from_slice.ensures, c.new-head.ensures, c.magic.ensures)
+    (simp length-append (omega (arith, decimal_few c.args.width c.requires.0, decimal_few c.args.height c.requires.1)))

@@ -7,12 +7,12 @@ use Rattle.hejslopi.proofs.filter.Goals as goal
 
 pub slice_bounds-out-end : goal.slice_bounds-out-end
 slice_bounds-out-end g c =
-    omega (arith, length-fits c.filter_still.ensures c.in-Picture.is)
+    omega (arith, length-fits c.filter_still.ensures c.in_ok-picture.was)
 
 pub slice_bounds-save-end : goal.slice_bounds-save-end
 slice_bounds-save-end g c =
-    sym (length-take-le _ _ (omega (arith, length-fits c.filter_still.ensures c.in-Picture.is)))
+    sym (length-take-le _ _ (omega (arith, length-fits c.filter_still.ensures c.in_ok-picture.was)))
 
 pub save-requires : goal.save-requires
 save-requires g c =
-    front_saves c.filter_still.ensures c.in-Picture.is
+    front_saves c.filter_still.ensures c.in_ok-picture.was

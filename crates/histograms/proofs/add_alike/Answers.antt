@@ -1,14 +1,9 @@
 -- `histograms::add_alike` meets its contract: one count stored anew. Assumes nothing.
-use Prim.Native.Nat.{◌-◌}
 use native.Mathlib.Omega.{arith}
 use mathlib.Core.Path.{refl}
 use Rattle.histograms.proofs.Counts.{counted_alike}
 use Rattle.histograms.proofs.Below.{alike_below, alike_not_below}
 use Rattle.histograms.proofs.add_alike.Goals as goal
-
-pub overflow_add-counts : goal.overflow_add-counts
-overflow_add-counts c =
-    omega (arith, c.requires.2 c.args.sample)
 
 pub returns-then-sample-level : goal.returns-then-sample-level
 returns-then-sample-level c =

@@ -1,5 +1,4 @@
 -- `histograms::down_to` meets its contract: what is below a level is the sum of the counts before it. Assumes nothing.
-use Prim.Native.Nat.{◌-◌}
 use mathlib.Core.Path.{◌≡◌}
 use Rattle.histograms.specs.Histogram.{total}
 use Rattle.histograms.proofs.down_to.Given as goal

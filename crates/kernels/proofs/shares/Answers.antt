@@ -27,7 +27,7 @@ lacking_units-lacking-requires c =
 
 pub loop-i-init : goal.loop-i-init
 loop-i-init c =
-    (omega arith, fill_none _ _, refl)
+    (fill_none _ _, refl)
 
 pub slice_bounds-unit_of-end : goal.slice_bounds-unit_of-end
 slice_bounds-unit_of-end c =
@@ -45,7 +45,7 @@ share-requires c =
 
 pub bounds-weights-i : goal.bounds-weights-i
 bounds-weights-i c =
-    omega (arith, c.loop-i.invariant.2, c.requires.taps)
+    omega (arith, c.requires.taps)
 
 pub loop-i-preserved : goal.loop-i-preserved
 loop-i-preserved c =
@@ -57,7 +57,7 @@ loop-i-preserved c =
     let u = unit_is a.divisor o v c.remainders-left.result.rest a.n c.remainders-left.ensures.1 L.i c.loop-i-test.true l.some in
     let k = (rw c.lacking_units-lacking.ensures at c.unit_of.ensures.1) ∙ sym (ap (λ (b : Bool). cond {A = ℕ} b 1 0) u) in
     let s : to_z w32 (of_z w32 c.share.result) ≡ c.share.result = search rules in
-    (omega arith, fill_more _ _ _ _ _ (omega (arith, L.invariant.2, l.taps)) L.invariant.1 (s ∙ weight_is a.divisor o v a.n L.i _ c.share.ensures k), simp length-set L.invariant.2)
+    (fill_more _ _ _ _ _ (omega (arith, l.taps)) L.invariant.0 (s ∙ weight_is a.divisor o v a.n L.i _ c.share.ensures k), simp length-set L.invariant.1)
 
 pub returns : goal.returns
 returns c =
@@ -65,7 +65,7 @@ returns c =
     let a = c.args in
     let v = a.values.now in
     let o = a.offsets.now in (
-      sym L.invariant.2,
-      filled_front _ a.n L.i _ _ L.invariant.0 c.loop-i-test.false L.invariant.1 ∙ sym (shares_are a.divisor o v a.n),
+      L.invariant.1,
+      filled_front _ a.n L.i _ _ L.auto.i-end c.loop-i-test.false L.invariant.0 ∙ sym (shares_are a.divisor o v a.n),
       c.remainders-left.ensures.2 ∙ rounded-is a.divisor o v a.n,
     )

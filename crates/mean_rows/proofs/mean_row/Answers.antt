@@ -1,5 +1,5 @@
 -- `mean_rows::mean_row` meets its contract: what is stored so far, then what was there. Assumes nothing.
-use Rattle.std.proofs.Common.{ℕ, ◌+◌, ◌-◌, ◌*◌, ◌/◌, ap, ◌∙◌}
+use Rattle.std.proofs.Common.{ℕ, ◌+◌, ◌*◌, ◌/◌, ap, ◌∙◌}
 use Rattle.lists.proofs.Stored.{stored_none, stored_more, stored_done}
 use Rattle.mean_rows.proofs.mean_row.Goals as goal
 

@@ -8,8 +8,4 @@ pub returns : goal.returns
 unfolding corners
 returns c =
     let a = c.args in
-    three_differences _ _ _ _ c.wrapping_sub_u32-right.result c.wrapping_sub_u32-left.result _
-    (omega (arith, c.type_inv.upper (a.across + a.u)))
-    (omega (arith, c.type_inv.upper a.u))
-    (omega arith)
-    c.wrapping_sub_u32-right.ensures.value c.wrapping_sub_u32-left.ensures.value c.wrapping_sub_u32.ensures.value
+    three_differences _ _ _ _ (omega (arith, c.type_inv.upper (a.across + a.u))) (omega (arith, c.type_inv.lower a.u)) (omega (arith, c.type_inv.upper a.u))

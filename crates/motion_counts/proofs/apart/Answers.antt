@@ -1,14 +1,8 @@
--- `motion_counts::apart` meets its contract: the larger less the smaller. Assumes nothing.
-use native.Mathlib.Omega.{arith}
+-- `motion_counts::apart` meets its contract: how far two numbers are apart is their distance. Assumes nothing.
+use borrow.Author.Rules.{rules}
 use Rattle.model.specs.Within.{distance}
 use Rattle.motion_counts.proofs.apart.Goals as goal
 
-pub returns-then-a-b : goal.returns-then-a-b
+pub returns : goal.returns
 unfolding distance
-returns-then-a-b c =
-    omega (arith, c.if-a-b.true)
-
-pub returns-else-a-b : goal.returns-else-a-b
-unfolding distance
-returns-else-a-b c =
-    omega (arith, c.if-a-b.false)
+returns c = search rules

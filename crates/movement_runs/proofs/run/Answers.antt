@@ -8,13 +8,13 @@ use Rattle.movement_runs.proofs.run.Goals as goal
 pub counted-requires : goal.counted-requires
 counted-requires c =
     let p = c.requires in
-    record { limit = p.limit; first = p.first; second = p.second; few = p.few; ends = p.ends; fits1 = omega (arith, p.fits1, c.out1-1.given); fits2 = omega (arith, p.fits2, c.out2-1.given) }
+    record { limit = p.limit; first = p.first; second = p.second; few = p.few; ends = p.ends; fits1 = omega (arith, p.fits1); fits2 = omega (arith, p.fits2) }
 
 pub returns : goal.returns
 returns c =
     let a = c.args in
     record {
       first = leaves (run_on a.recipe1.now a.still1.now a.work.now a.rows.now a.sums.now a.out1.now) c.filter_file.ensures refl;
-      second = leaves (run_on a.recipe2.now a.still2.now a.work.now a.rows.now a.sums.now a.out2.now) c.filter_file-2.ensures (same-lent c.work-1.given c.rows-1.given c.sums-1.given);
+      second = leaves (run_on a.recipe2.now a.still2.now a.work.now a.rows.now a.sums.now a.out2.now) c.filter_file-2.ensures (same-lent (omega arith) (omega arith) (omega arith));
       counted = c.counted.ensures;
     }

@@ -1,55 +1,36 @@
--- `near_rows::all_near` meets its contract: all samples so far are near, and the first that is not decides. Assumes nothing.
-use Prim.Native.Nat.{ℕ, ◌*◌, ◌≤◌}
-use native.Mathlib.Nat.{le_antisymm, mul-le-mul}
+-- `near_rows::all_near` meets its contract: it stops at the first sample that is not near. Assumes nothing.
+use Prim.Native.Nat.{ℕ, ◌*◌, ◌<◌}
 use native.Mathlib.Omega.{arith}
-use mathlib.Core.Path.{◌≡◌, sym, ◌∙◌}
-use lib.ListN.{get_or}
+use mathlib.Core.Path.{◌≡◌, refl, sym, ◌∙◌}
+use mathlib.Core.Bool.{Bool, true, false}
+use lib.ListN.{length, get_or}
 use lib.IntN.{pos}
-use mir.Syntax.{w64}
-use mir.Val.{to_z, of_z}
-use Rattle.near_rows.proofs.EverywhereLaws.{everywhere-none, everywhere-more, everywhere_fails}
 use borrow.Author.Rules.{rules}
+use Rattle.std.proofs.Common.{tests}
+use Rattle.std.specs.Bool.{MatchBool}
+use Rattle.std.specs.List.{range_with_len, AllWithin, HoldsAt}
+use Rattle.std.proofs.lemmas.List.FromFn.{get_or-range_with_len, length-range_with_len}
+use Rattle.std.proofs.lemmas.Iterator.{cases_from_all, YieldsList-from_range}
+use Rattle.near_rows.specs.Near.{near_clamped}
+use Rattle.near_rows.specs.Everywhere.{everywhere}
+use Rattle.near_rows.proofs.EverywhereLaws.{everywhere-all, everywhere_fails}
 use Rattle.near_rows.proofs.all_near.Goals as goal
 
--- no place is a large number
-place-small : {u w step : ℕ} → u ≤ w → w ≤ 8192 → step ≤ 3 → u * step ≤ 24576
-place-small h k l = mul-le-mul {n₂ = 8192} {m₂ = 3} (omega (arith, h, k)) l
+element : (n k : ℕ) → k < n → get_or (range_with_len 0 n) k 0 ≡ k
+element n k b = get_or-range_with_len 0 n k 0 b ∙ omega arith
 
-pub loop-u-init : goal.loop-u-init
-loop-u-init c =
-    (omega arith, omega arith, everywhere-none _)
-
-pub bounds-received-at : goal.bounds-received-at
-bounds-received-at c =
-    let L = c.loop-u in rw L.invariant.1 (c.requires.3 L.u c.loop-u-test.true)
-
-pub near-requires : goal.near-requires
-near-requires c =
-    let p = c.requires in (p.4, p.5)
-
-pub overflow_add-at : goal.overflow_add-at
-overflow_add-at c =
-    let p = c.requires in
-    let L = c.loop-u in
-    record { fits = omega (arith, L.invariant.1, p.1, place-small L.invariant.0 p.0 p.1) }
+-- what is found of the numbers below n, one by one, is found of them all
+tested : (n : ℕ) (p : ℕ → Bool) (r : Bool)
+    → MatchBool r (AllWithin (λ u. p u ≡ true) (range_with_len 0 n) 0 (length (range_with_len 0 n))) ((k : ℕ) × (k < length (range_with_len 0 n)) × HoldsAt (λ u. p u ≡ false) (range_with_len 0 n) k)
+    → r ≡ everywhere n p
+tested n p true h = sym (everywhere-all p n (λ k b. rw (element n k b) at (h k 0 (omega arith) (rw (length-range_with_len 0 n) b))))
+tested n p false h =
+    let b : h.0 < n = rw (length-range_with_len 0 n) at h.1 in
+    sym (everywhere_fails p n h.0 b (rw (element n h.0 b) at (h.2 0)))
 
 pub returns : goal.returns
 returns c =
-    sym (rw (le_antisymm c.loop-u.invariant.0 c.loop-u-test.false) at c.loop-u.invariant.2)
-
-pub returns-then-not-near : goal.returns-then-not-near
-returns-then-not-near c =
     let a = c.args in
-    let L = c.loop-u in
-    let read : to_z w64 (of_z w64 (get_or a.numerators.now L.u (pos 0))) ≡ get_or a.numerators.now L.u (pos 0) = search rules in
-    sym (everywhere_fails _ a.w L.u c.loop-u-test.true (rw (read, L.invariant.1) at (sym c.near.ensures ∙ c.if-not-near.true)))
-
-pub loop-u-preserved : goal.loop-u-preserved
-loop-u-preserved c =
-    let a = c.args in
-    let L = c.loop-u in
-    let read : to_z w64 (of_z w64 (get_or a.numerators.now L.u (pos 0))) ≡ get_or a.numerators.now L.u (pos 0) = search rules in (
-      omega (arith, c.loop-u-test.true),
-      omega (arith, L.invariant.1),
-      everywhere-more _ L.u L.invariant.2 (rw (read, L.invariant.1) at (sym c.near.ensures ∙ c.if-not-near.false)),
-    )
+    let p = λ (u : ℕ). near_clamped a.c a.n (get_or a.received.now (u * a.step) 0) (get_or a.numerators.now u (pos 0)) in
+    tested a.w p c.all.result
+    (cases_from_all _ _ _ (λ u. p u ≡ true) (λ u. p u ≡ false) c.all.ensures.ran (YieldsList-from_range 0 a.w a.w refl (omega arith)) (λ x q k. search (rules, tests)) (λ x q k. search (rules, tests)))

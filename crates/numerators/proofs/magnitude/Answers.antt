@@ -1,5 +1,5 @@
 -- `numerators::magnitude` meets its contract: the sum so far. Assumes nothing.
-use Prim.Native.Nat.{ℕ, ◌-◌}
+use Prim.Native.Nat.{ℕ}
 use native.Mathlib.Omega.{arith}
 use native.Mathlib.Nat.{le_antisymm}
 use mathlib.Core.Path.{sym}
@@ -12,7 +12,7 @@ use Rattle.numerators.proofs.magnitude.Goals as goal
 
 pub loop-i-init : goal.loop-i-init
 loop-i-init c =
-    (omega arith, sym (sum-none _))
+    sym (sum-none _)
 
 pub overflow_add-sum : goal.overflow_add-sum
 unfolding numerator_of
@@ -29,8 +29,8 @@ overflow_add-sum c =
 
 pub loop-i-preserved : goal.loop-i-preserved
 loop-i-preserved c =
-    (omega arith, omega (arith, c.magnitude_of-sum.ensures, sum_more (λ (k : ℕ). nat_abs (numerator_of (get_or c.args.values.now k 0))) c.loop-i.i, c.loop-i.invariant.1))
+    omega (arith, c.magnitude_of-sum.ensures, sum_more (λ (k : ℕ). nat_abs (numerator_of (get_or c.args.values.now k 0))) c.loop-i.i, c.loop-i.invariant)
 
 pub returns : goal.returns
 returns c =
-    rw (le_antisymm c.loop-i.invariant.0 c.loop-i-test.false) at c.loop-i.invariant.1
+    rw (le_antisymm c.loop-i.auto.i-end c.loop-i-test.false) at c.loop-i.invariant

@@ -1,5 +1,5 @@
 -- `numerators::magnitude` meets its contract: the sum so far. Assumes nothing.
-use Prim.Native.Nat.{ℕ, ◌-◌, ◌≤◌}
+use Prim.Native.Nat.{ℕ}
 use mathlib.Core.Path.{◌≡◌}
 use lib.ListN.{get_or}
 use lib.IntN.{nat_abs}
@@ -9,7 +9,4 @@ use Rattle.numerators.specs.Numerator.{numerator_of}
 use Rattle.numerators.proofs.magnitude.Given as goal
 
 abbrev pub invariant-loop-i : goal.invariant-loop-i
-invariant-loop-i l = (l.i ≤ l.n) × (l.sum ≡ Rattle.integers.specs.Sum.sum (tabulate (λ (k : ℕ). nat_abs (numerator_of (get_or l.values k 0))) l.i))
-
-abbrev pub decreases-loop-i : goal.decreases-loop-i
-decreases-loop-i l = l.n - l.i
+invariant-loop-i l = l.sum ≡ sum (tabulate (λ (k : ℕ). nat_abs (numerator_of (get_or l.values k 0))) l.i)

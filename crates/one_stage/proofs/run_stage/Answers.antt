@@ -4,7 +4,7 @@ use native.Mathlib.Nat.{mul-le-mul}
 use native.Mathlib.Omega.{arith}
 use mathlib.Core.Path.{sym, ◌∙◌}
 use lib.ListN.{take, length-take}
-use Rattle.one_stage.proofs.Planes.{front_frame, front_put, weighted_does, weighted_plane, box_does, box_plane, box-room, rank_does, rank_plane, outline_plane}
+use Rattle.one_stage.proofs.Planes.{front_frame, front_put, weighted_does, weighted_plane, box_plane, box-room, rank_plane, outline_plane}
 use Rattle.one_stage.proofs.run_stage.Goals as goal
 
 pub overflow_mul-n : goal.overflow_mul-n
@@ -19,23 +19,19 @@ pub weighted_stage-requires : goal.weighted_stage-requires
 weighted_stage-requires c =
     let a = c.args in
     let p = c.requires in
-    let d = weighted_does a.w a.h a.s (take (a.h * a.w) a.work.now) p.6.0 p.6.1 c.in-Weighted.is in
-    (front_frame a.w a.h a.s a.work.now p.0 p.1 p.2 p.3 p.4, p.5, (d.0, d.3), (d.1, d.4))
+    (front_frame a.w a.h a.s a.work.now p.0 p.1 p.2 p.3 p.4, p.5)
 
 pub box_stage-requires : goal.box_stage-requires
 box_stage-requires c =
     let a = c.args in
     let p = c.requires in
-    let e = c.in-Boxed.is in
-    let d = box_does a.w a.h a.s (take (a.h * a.w) a.work.now) p.6.0 p.6.1 e in
-    (front_frame a.w a.h a.s a.work.now p.0 p.1 p.2 p.3 p.4, p.4, d.1, d.2, box-room a.w a.h a.s (take (a.h * a.w) a.work.now) p.6.0 p.6.1 e p.6.2)
+    (front_frame a.w a.h a.s a.work.now p.0 p.1 p.2 p.3 p.4, p.4, box-room a.w a.h a.s (take (a.h * a.w) a.work.now) p.6.0 p.6.1 c.in-Boxed.is p.6.2)
 
 pub rank_stage-requires : goal.rank_stage-requires
 rank_stage-requires c =
     let a = c.args in
     let p = c.requires in
-    let d = rank_does a.w a.h a.s (take (a.h * a.w) a.work.now) p.6.0 p.6.1 c.in-Ranked.is in
-    (front_frame a.w a.h a.s a.work.now p.0 p.1 p.2 p.3 p.4, p.4, d.1, d.2, d.3, d.4)
+    (front_frame a.w a.h a.s a.work.now p.0 p.1 p.2 p.3 p.4, p.4)
 
 pub outline_stage-requires : goal.outline_stage-requires
 outline_stage-requires c =

@@ -1,6 +1,6 @@
 -- `plane_filter::run` meets its contract: in, through, out. Assumes nothing.
-use Prim.Native.Nat.{ℕ, ◌+◌, ◌*◌}
-use native.Mathlib.Nat.{mul_comm, mul-le-mul}
+use Prim.Native.Nat.{ℕ, ◌*◌}
+use native.Mathlib.Nat.{mul-le-mul}
 use native.Mathlib.Omega.{arith}
 use mathlib.Core.Path.{ap, ◌∙◌}
 use mathlib.Core.List.{List, ◌++◌}
@@ -22,9 +22,8 @@ copy_front-requires c =
 
 pub run_stages-requires : goal.run_stages-requires
 run_stages-requires c =
-    let a = c.args in
     let p = c.requires.0 in
-    (p.width.0, p.width.1, p.height.0, p.height.1, rw (mul_comm a.h a.w) (omega (arith, p.enough-work)), rw (mul_comm (a.h + 30) a.w) p.enough-rows, p.accepted, p.enough-sums)
+    record { width = p.width; height = p.height; accepted = p.accepted; enough-work = omega (arith, p.enough-work); enough-rows = p.enough-rows; enough-sums = p.enough-sums }
 
 pub copy_front-requires-2 : goal.copy_front-requires-2
 copy_front-requires-2 c =

@@ -1,6 +1,5 @@
 -- `rank_search::raise` meets its contract: what is stored so far, then what was there. Assumes nothing.
-use Prim.Native.Nat.{◌-◌}
-use Rattle.lists.proofs.Stored.{stored_none, stored_more, stored_next, stored_done}
+use Rattle.lists.proofs.Stored.{stored_none, stored_more, stored_next}
 use Rattle.rank_search.proofs.raise.Goals as goal
 
 pub loop-u-init : goal.loop-u-init
@@ -16,11 +15,3 @@ pub loop-u-preserved : goal.loop-u-preserved
 loop-u-preserved c =
     let L = c.loop-u in
     stored_more L.invariant c.requires.1 c.loop-u-test.true (rw (stored_next 0 L.invariant) at c.raised.ensures)
-
-pub shape_of-low : goal.shape_of-low
-shape_of-low c =
-    c.loop-u.invariant.long
-
-pub returns : goal.returns
-returns c =
-    stored_done c.loop-u.invariant c.loop-u-test.false

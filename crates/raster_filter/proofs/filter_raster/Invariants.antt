@@ -1,8 +1,8 @@
 -- `raster_filter::filter_raster` meets its contract: the channels so far are in place, and all else is as it was. Assumes nothing.
-use Prim.Native.Nat.{ℕ, ◌-◌, ◌≤◌}
+use Prim.Native.Nat.{ℕ}
 use mathlib.Core.Path.{◌≡◌}
 use mathlib.Core.List.{List}
-use lib.ListN.{length, get_or}
+use lib.ListN.{get_or}
 use Rattle.model.specs.Stage.{written}
 use Rattle.recipe.specs.Recipe.{recipe_stages}
 use Rattle.channels.specs.Channel.{channel, placed}
@@ -13,8 +13,4 @@ abbrev pub planes : List ℕ → ℕ → ℕ → ℕ → ℕ → List ℕ → �
 planes recipe w h channels n raster k = written w h (recipe_stages recipe) (channel channels n raster k)
 
 abbrev pub invariant-loop-c : goal.invariant-loop-c
-invariant-loop-c l = (l.c ≤ l.channels) × (length l.work ≡ length l.initial.work) × (length l.rows ≡ length l.initial.rows) × (length l.sums ≡ length l.initial.sums) × (length l.out ≡ length l.initial.out)
-    × ((k : ℕ) → get_or l.out k 0 ≡ placed l.channels l.n (planes l.recipe l.w l.h l.channels l.n l.raster) l.initial.out l.c k)
-
-abbrev pub decreases-loop-c : goal.decreases-loop-c
-decreases-loop-c l = l.channels - l.c
+invariant-loop-c l = (k : ℕ) → get_or l.out k 0 ≡ placed l.channels l.n (planes l.recipe l.w l.h l.channels l.n l.raster) l.initial.out l.c k

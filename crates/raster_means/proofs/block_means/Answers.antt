@@ -1,5 +1,5 @@
 -- `raster_means::block_means` meets its contract: what is stored so far, then what was there. Assumes nothing.
-use Prim.Native.Nat.{◌-◌}
+use native.Mathlib.Omega.{arith}
 use Rattle.lists.proofs.Stored.{stored_none, stored_more, stored_done}
 use Rattle.raster_means.proofs.block_means.Goals as goal
 
@@ -10,12 +10,12 @@ loop-u-init c =
 pub mean-requires : goal.mean-requires
 mean-requires c =
     let p = c.requires in
-    (p.2, p.3, p.5 c.loop-u.u c.loop-u-test.true, p.4)
+    (p.2, p.3, p.5 c.loop-u.u (omega arith), p.4)
 
 pub loop-u-preserved : goal.loop-u-preserved
 loop-u-preserved c =
-    stored_more c.loop-u.invariant c.requires.1 c.loop-u-test.true c.mean.ensures
+    stored_more c.loop-u.invariant c.requires.1 (omega arith) c.mean.ensures
 
 pub returns : goal.returns
 returns c =
-    stored_done c.loop-u.invariant c.loop-u-test.false
+    stored_done c.loop-u.invariant (omega arith)

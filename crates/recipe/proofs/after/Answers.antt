@@ -8,18 +8,6 @@ after_weighted-requires c =
     let l = weighted-limits c.args.s h.1.0 h.1.1 c.in-Weighted.is in
     (h.0, l.0, l.1, l.2, l.3)
 
-pub after_box-requires : goal.after_box-requires
-after_box-requires c =
-    c.requires.0
-
-pub after_rank-requires : goal.after_rank-requires
-after_rank-requires c =
-    c.requires.0
-
-pub after_outline-requires : goal.after_outline-requires
-after_outline-requires c =
-    c.requires.0
-
 pub returns-in-Weighted : goal.returns-in-Weighted
 returns-in-Weighted c =
     let e = c.after_weighted.ensures in

@@ -1,82 +1,84 @@
 -- `recipe::read_recipe` meets its contract. Assumes nothing.
-use Prim.Native.Nat.{◌-◌}
 use native.Mathlib.Nat.{sub-zero}
 use native.Mathlib.Omega.{arith}
-use mathlib.Core.Path.{refl, sym, ap, ◌∙◌}
-use lib.ListN.{length, get_or, length-drop}
+use mathlib.Core.Path.{sym, ap, ◌∙◌}
+use mathlib.Core.Logic.{inl, inr}
+use lib.ListN.{length, length-drop}
 use borrow.Author.Tests.{le-leb, lt-leb}
+use Rattle.std.proofs.lemmas.Result.{err_from_is_err_and}
 use Rattle.lists.proofs.Part.{tail_mid}
-use Rattle.refusals.specs.Refusal.{verdict}
 use Rattle.model.specs.Tolerance.{tolerance}
-use Rattle.recipe_bytes.specs.Bytes.{there}
-use Rattle.recipe_stages.specs.StageBytes.{stage_tests}
+use Rattle.recipe_bytes.specs.Bytes.{at, there}
+use Rattle.recipe_bytes.proofs.ByteLaws.{byte_read, byte_past}
 use Rattle.recipe.specs.Recipe.{recipe_tests, recipe_stages, recipe_of}
 use Rattle.recipe.proofs.Chain.{stage-refused, stage-more, stages_long, stages_done}
-use borrow.Author.Rules.{rules}
 use Rattle.recipe.proofs.read_recipe.Goals as goal
 
-pub returns-then-recipe-lt1 : goal.returns-then-recipe-lt1
+pub returns-in_err-count : goal.returns-in_err-count
 unfolding recipe_of recipe_tests there
-returns-then-recipe-lt1 c =
-    sym (rw (lt-leb _ _ c.if-recipe-lt1.true) refl)
+returns-in_err-count c =
+    let p = err_from_is_err_and c.from_residual.result c.from_residual.ensures.1 in
+    let none = byte_past _ _ c.in_err-count.ensures in
+    rw (p.1, p.2, none.1, lt-leb 1 (length c.args.recipe.now) (omega arith))
 
 pub returns-then-count-lt1 : goal.returns-then-count-lt1
 unfolding recipe_of recipe_tests there
 returns-then-count-lt1 c =
-    sym (rw (le-leb _ _ c.if-recipe-lt1.false, lt-leb _ _ c.if-count-lt1.true) refl)
-
-pub returns-then-count-gt8 : goal.returns-then-count-gt8
-unfolding recipe_of recipe_tests there
-returns-then-count-gt8 c =
-    sym (rw (le-leb _ _ c.if-recipe-lt1.false, le-leb _ _ c.if-count-lt1.false, lt-leb _ _ c.if-count-gt8.true) refl)
-
-pub loop-k-init : goal.loop-k-init
-unfolding recipe_of recipe_tests recipe_stages there tolerance
-loop-k-init c =
-    let e = c.start-total.ensures in
-    (omega arith, omega arith, omega arith, rw e (omega arith), rw (e, sub-zero) (search (rules, le-leb)))
-
-pub returns-in-Refused : goal.returns-in-Refused
-returns-in-Refused c =
-    let L = c.loop-k in
     let b = c.args.recipe.now in
-    let f = ap (λ l. verdict (stage_tests l)) (sym (tail_mid L.at b)) ∙ sym c.tests-found.ensures ∙ c.in-Refused.is in
-    sym (L.invariant.4 ∙ stage-refused b (get_or b 0 0) L.k L.at L.total.units c.loop-k-test.true f)
+    let read = byte_read _ _ c.in_ok-count.ensures in
+    rw (le-leb 1 (length b) (omega arith))
+    (elim c.then-count-lt1.either [
+      | inl none ↦ rw (lt-leb 1 (at b 0) (omega arith))
+      | inr many ↦ rw (le-leb 1 (at b 0) (omega arith), lt-leb (at b 0) 8 (omega arith))
+    ])
 
-pub read_stage-requires : goal.read_stage-requires
-read_stage-requires c =
-    sym c.tests-found.ensures ∙ c.in-Passed.is
+pub loop-init : goal.loop-init
+unfolding recipe_of recipe_tests recipe_stages there tolerance
+loop-init c =
+    let b = c.args.recipe.now in
+    let e = c.start-total.ensures in
+    let read = byte_read _ _ c.in_ok-count.ensures in
+    record {
+      inside = omega arith;
+      cut = rw e (omega arith);
+      rest = rw (e, read.1, sub-zero, le-leb 1 (length b) (omega arith), le-leb 1 (at b 0) (omega arith), le-leb (at b 0) 8 (omega arith));
+    }
+
+pub slice_bounds-part-count : goal.slice_bounds-part-count
+slice_bounds-part-count c =
+    c.loop.invariant.inside
+
+pub slice_bounds-part-start : goal.slice_bounds-part-start
+slice_bounds-part-start c =
+    c.loop.invariant.inside
+
+pub returns-in_err-tests : goal.returns-in_err-tests
+returns-in_err-tests c =
+    let L = c.loop in
+    let b = c.args.recipe.now in
+    let p = err_from_is_err_and c.from_residual-in_err-tests.result c.from_residual-in_err-tests.ensures.1 in
+    rw (p.1, p.2) (sym (L.invariant.rest ∙ stage-refused b _ L.counter L.at L.total.units c.loop-test.true (rw (← tail_mid L.at b) (sym c.in_err-tests.ensures))))
 
 pub after-total-requires : goal.after-total-requires
 after-total-requires c =
-    (c.loop-k.invariant.3, (_, c.read_stage.ensures))
+    (c.loop.invariant.cut, (_, c.read_stage.ensures))
 
-pub stage_length-at-requires : goal.stage_length-at-requires
-stage_length-at-requires c =
-    sym c.tests-found.ensures ∙ c.in-Passed.is
-
-pub overflow_add-at : goal.overflow_add-at
-overflow_add-at c =
-    record { fits = omega (arith, c.stage_length-at.ensures.2, c.loop-k.invariant.2, c.loop-k-test.true, c.if-count-gt8.false) }
-
-pub loop-k-preserved : goal.loop-k-preserved
-loop-k-preserved c =
-    let L = c.loop-k in
+pub loop-preserved : goal.loop-preserved
+loop-preserved c =
+    let L = c.loop in
     let b = c.args.recipe.now in
     let m = tail_mid L.at b in
     let s = c.stage_length-at.ensures in
-    let f = ap (λ l. verdict (stage_tests l)) (sym m) ∙ sym c.tests-found.ensures ∙ c.in-Passed.is in (
-      omega (arith, c.loop-k-test.true),
-      omega (arith, s.1, ap length m, length-drop L.at b, L.invariant.1),
-      omega (arith, s.2, L.invariant.2),
-      c.after-total.ensures.0,
-      L.invariant.4 ∙ stage-more b (get_or b 0 0) L.k L.at L.total.units c.loop-k-test.true f ∙ rw (c.after-total.ensures.1 _ c.read_stage.ensures, s.0, m),
-    )
+    record {
+      inside = omega (arith, s.1, ap length m, length-drop L.at b, L.invariant.inside);
+      cut = c.after-total.ensures.0;
+      rest = L.invariant.rest ∙ stage-more b _ L.counter L.at L.total.units c.loop-test.true (rw (← m) (sym c.in_ok-tests.ensures)) ∙ rw (c.after-total.ensures.1 _ c.read_stage.ensures, s.0, m);
+    }
 
 pub returns-then-at-recipe : goal.returns-then-at-recipe
 returns-then-at-recipe c =
-    sym (c.loop-k.invariant.4 ∙ stages_long _ _ _ _ _ c.loop-k-test.false c.if-at-recipe.true)
+    sym (c.loop.invariant.rest ∙ stages_long _ _ _ _ _ c.loop-test.false c.if-at-recipe.true)
 
 pub returns : goal.returns
 returns c =
-    sym (c.loop-k.invariant.4 ∙ stages_done _ _ _ _ _ c.loop-k-test.false c.if-at-recipe.false)
+    sym (c.loop.invariant.rest ∙ stages_done _ _ _ _ _ c.loop-test.false c.if-at-recipe.false)

@@ -1,13 +1,10 @@
 -- `recipe::read_recipe` meets its contract. Assumes nothing.
-use Prim.Native.Nat.{◌+◌, ◌-◌, ◌*◌, ◌≤◌}
+use Prim.Native.Nat.{◌≤◌}
 use mathlib.Core.Path.{◌≡◌}
 use lib.ListN.{length}
 use Rattle.recipe.specs.Recipe.{recipe_of}
 use Rattle.recipe.proofs.Chain.{left}
 use Rattle.recipe.proofs.read_recipe.Given as goal
 
-abbrev pub invariant-loop-k : goal.invariant-loop-k
-invariant-loop-k l = (l.k ≤ l.count) × (l.at ≤ length l.recipe) × (l.at ≤ 1 + 8195 * l.k) × (l.total.units ≤ 16711680) × (recipe_of l.recipe ≡ left l.recipe l.count l.k l.at l.total.units)
-
-abbrev pub decreases-loop-k : goal.decreases-loop-k
-decreases-loop-k l = l.count - l.k
+abbrev pub invariant-loop : goal.invariant-loop
+invariant-loop l = record { inside : l.at ≤ length l.recipe; cut : l.total.units ≤ 16711680; rest : recipe_of l.recipe ≡ left l.recipe l.count l.counter l.at l.total.units }

@@ -28,7 +28,7 @@ overflow_mul-w c =
 pub overflow_add-w-2 : goal.overflow_add-w-2
 overflow_add-w-2 c =
     let few : c.weight_length.result * c.taps_before-before.result ≤ 1020 = mul-le-mul {n₂ = 4} {m₂ = 255} (omega (arith, c.weight_length.ensures, length_small c.args.real)) c.taps_before-before.ensures.1 in
-    omega (arith, few, c.wide.ensures, c.wide-2.ensures, c.sizes_length-o.ensures)
+    omega (arith, few, c.sizes_length-o.ensures)
 
 pub divisor-d-requires : goal.divisor-d-requires
 divisor-d-requires c =
@@ -42,7 +42,7 @@ bounds-part-axis c =
 pub kernel_from-requires : goal.kernel_from-requires
 kernel_from-requires c =
     let a = c.args in
-    rw (c.wide-3.ensures.0, c.weight_length.ensures, c.wide-2.ensures.0, c.wide.ensures.0, c.sizes_length-o.ensures.0, c.taps_before-before.ensures.0)
+    rw (c.from-n.ensures, c.weight_length.ensures, c.from-2.ensures, c.from.ensures, c.sizes_length-o.ensures.0, c.taps_before-before.ensures.0)
     (axis_tested a.real a.part.now (λ i. (c.type_inv.part i).fits) c.requires.1 a.axis c.requires.0)
 
 pub returns : goal.returns
@@ -50,5 +50,5 @@ unfolding kernel_on
 returns c =
     let a = c.args in
     let k = c.kernel_from.ensures in
-    let e = rw (c.wide-3.ensures.0, c.weight_length.ensures, c.wide-2.ensures.0, c.wide.ensures.0, c.sizes_length-o.ensures.0, c.taps_before-before.ensures.0, c.divisor-d.ensures) at k in
+    let e = rw (c.from-n.ensures, c.weight_length.ensures, c.from-2.ensures, c.from.ensures, c.sizes_length-o.ensures.0, c.taps_before-before.ensures.0, c.divisor-d.ensures) at k in
     rw (e.0, e.1) (e.2, axis_kept a.real a.part.now (λ i. (c.type_inv.part i).fits) c.requires.1 a.axis c.requires.0 e.2)

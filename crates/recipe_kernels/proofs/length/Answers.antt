@@ -19,13 +19,13 @@ bounds-part-1 c =
 pub overflow_mul-result : goal.overflow_mul-result
 overflow_mul-result c =
     let a : c.weight_length.result ≤ 4 = omega (arith, c.weight_length.ensures, length_small c.args.real) in
-    let b : c.wide.result + c.wide-2.result ≤ 512 = omega (arith, c.wide.ensures.1, c.wide-2.ensures.1) in
+    let b : c.from.result + c.from-2.result ≤ 512 = omega arith in
     omega (arith, mul-le-mul a b)
 
 pub overflow_add-result-2 : goal.overflow_add-result-2
 overflow_add-result-2 c =
     let a : c.weight_length.result ≤ 4 = omega (arith, c.weight_length.ensures, length_small c.args.real) in
-    let b : c.wide.result + c.wide-2.result ≤ 512 = omega (arith, c.wide.ensures.1, c.wide-2.ensures.1) in
+    let b : c.from.result + c.from-2.result ≤ 512 = omega arith in
     omega (arith, mul-le-mul a b, c.sizes_length.ensures, b)
 
 pub returns : goal.returns
@@ -34,4 +34,4 @@ returns c =
     let a = c.args in
     let p = length_passed a.real a.part.now (λ i. (c.type_inv.part i).fits) c.requires in
     let q = length_most a.real a.part.now (λ i. (c.type_inv.part i).fits) c.requires in
-    rw (c.weight_length.ensures, c.sizes_length.ensures.0, c.wide-2.ensures.0, c.wide.ensures.0) (refl, p, q)
+    rw (c.weight_length.ensures, c.sizes_length.ensures.0, c.from-2.ensures, c.from.ensures) (refl, p, q)

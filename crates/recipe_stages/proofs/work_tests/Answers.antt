@@ -1,34 +1,40 @@
 -- `recipe_stages::work_tests` meets its contract. Assumes nothing.
-use mathlib.Core.Path.{refl, sym}
-use borrow.Author.Tests.{eq-eqb, ne_eqb}
+use mathlib.Core.Path.{sym, ◌∙◌}
+use mathlib.Core.Logic.{inl, inr}
+use Rattle.std.proofs.lemmas.Result.{err_from_is_err_and}
 use Rattle.refusals.specs.Refusal.{verdict}
-use Rattle.refusals.proofs.Passed.{verdict_append}
+use Rattle.refusals.proofs.Passed.{refused_first, passed_first}
 use Rattle.stage_fields.specs.StageFields.{radius_tests, position_tests}
 use Rattle.recipe_stages.specs.StageBytes.{work_tests}
 use Rattle.recipe_stages.proofs.work_tests.Goals as goal
 
-pub returns-then-kind-eq1 : goal.returns-then-kind-eq1
+pub returns-in-Ratios : goal.returns-in-Ratios
 unfolding work_tests
-returns-then-kind-eq1 c =
-    rw (eq-eqb _ _ c.if-kind-eq1.true) c.tests.ensures
+returns-in-Ratios c =
+    rw c.in-Ratios.is c.tests.ensures
 
-pub returns-then-kind-eq2 : goal.returns-then-kind-eq2
+pub returns-in-Reals : goal.returns-in-Reals
 unfolding work_tests
-returns-then-kind-eq2 c =
-    rw (ne_eqb _ _ c.if-kind-eq1.false, eq-eqb _ _ c.if-kind-eq2.true) c.tests-then-kind-eq2.ensures
+returns-in-Reals c =
+    rw c.in-Reals.is c.tests-in-Reals.ensures
 
-pub returns-then-kind-eq5 : goal.returns-then-kind-eq5
+pub returns-in-Binomial : goal.returns-in-Binomial
 unfolding work_tests
-returns-then-kind-eq5 c =
-    let b = c.args.part.now in
-    rw (ne_eqb _ _ c.if-kind-eq1.false, ne_eqb _ _ c.if-kind-eq2.false, eq-eqb _ _ c.if-kind-eq5.true, c.both.ensures, c.radii.ensures, c.position.ensures) (sym (verdict_append (radius_tests b) (position_tests b)))
+returns-in-Binomial c =
+    elim c.in-Binomial.is [ inl e ↦ rw e c.radii.ensures | inr e ↦ rw e c.radii.ensures ]
 
-pub returns-then-kind-eq6 : goal.returns-then-kind-eq6
+pub returns-in_err-radii-in-Rank : goal.returns-in_err-radii-in-Rank
+unfolding work_tests
+returns-in_err-radii-in-Rank c =
+    let p = err_from_is_err_and c.from_residual.result c.from_residual.ensures.1 in
+    rw (p.1, p.2, c.in-Rank.is) (refused_first (radius_tests c.args.part.now) _ (sym c.in_err-radii-in-Rank.ensures))
+
+pub returns-in_ok-radii-in-Rank : goal.returns-in_ok-radii-in-Rank
+unfolding work_tests
+returns-in_ok-radii-in-Rank c =
+    rw c.in-Rank.is (c.position.ensures ∙ passed_first (radius_tests c.args.part.now) (position_tests c.args.part.now) (sym c.in_ok-radii-in-Rank.ensures))
+
+pub returns-in-Outline : goal.returns-in-Outline
 unfolding work_tests verdict
-returns-then-kind-eq6 c =
-    rw (ne_eqb _ _ c.if-kind-eq1.false, ne_eqb _ _ c.if-kind-eq2.false, ne_eqb _ _ c.if-kind-eq5.false, eq-eqb _ _ c.if-kind-eq6.true) refl
-
-pub returns : goal.returns
-unfolding work_tests
-returns c =
-    rw (ne_eqb _ _ c.if-kind-eq1.false, ne_eqb _ _ c.if-kind-eq2.false, ne_eqb _ _ c.if-kind-eq5.false, ne_eqb _ _ c.if-kind-eq6.false) c.radii-2.ensures
+returns-in-Outline c =
+    rw c.in-Outline.is

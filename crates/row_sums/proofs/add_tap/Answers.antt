@@ -1,32 +1,32 @@
 -- `row_sums::add_tap` meets its contract: what is stored so far, then what was there. Assumes nothing.
-use Prim.Native.Nat.{◌-◌}
-use mathlib.Core.Path.{◌≡◌, ◌∙◌}
-use lib.ListN.{get_or}
-use mir.Syntax.{w32}
-use mir.Val.{to_z, of_z}
-use mir.Facts.{to_z-of_z}
-use lib.IntN.{pos}
+use Rattle.std.proofs.Common.{◌≡◌, get_or, refl, ◌∙◌, arith}
+use Rattle.std.proofs.lemmas.List.{get_or_read_under}
+use Rattle.std.proofs.Math.Facts.{to_z-of_z}
 use Rattle.lists.proofs.Stored.{stored_none, stored_more, stored_next, stored_done}
-use borrow.Author.Rules.{rules}
 use Rattle.row_sums.proofs.add_tap.Goals as goal
 
 pub loop-u-init : goal.loop-u-init
-loop-u-init c =
+loop-u-init g c =
     stored_none _ _ _
 
 pub plus-requires : goal.plus-requires
-plus-requires c =
+plus-requires g c =
+    let t = g.T.Tally in
     let L = c.loop-u in
-    let read : to_z w32 (of_z w32 (get_or L.sums L.u (pos 0))) ≡ get_or L.sums L.u (pos 0) = search rules in
-    (rw (read, stored_next (pos 0) L.invariant) (c.requires.3 L.u c.loop-u-test.true), rw (to_z-of_z c.ranges.weight) c.requires.2)
+    let a = c.args in
+    let sum : c.index-sums-u.result ≡ get_or a.sums.now L.u t.none = get_or_read_under L.sums L.u _ _ t.none c.index-sums-u.is (omega arith) refl ∙ stored_next t.none L.invariant in
+    let sample : c.index-row-u.result ≡ get_or a.row.now L.u t.blank = get_or_read_under a.row.now L.u _ _ t.blank c.index-row-u.is (omega arith) refl in
+    (rw (to_z-of_z c.ranges.weight) c.requires.2, rw (sum, sample) (c.requires.3 L.u c.loop-u-test.true))
 
 pub loop-u-preserved : goal.loop-u-preserved
-loop-u-preserved c =
+loop-u-preserved g c =
+    let t = g.T.Tally in
     let L = c.loop-u in
-    let out : to_z w32 (of_z w32 c.plus.result) ≡ c.plus.result = search rules in
-    let read : to_z w32 (of_z w32 (get_or L.sums L.u (pos 0))) ≡ get_or L.sums L.u (pos 0) = search rules in
-    stored_more L.invariant c.requires.0 c.loop-u-test.true (out ∙ c.plus.ensures ∙ rw (read, stored_next (pos 0) L.invariant))
+    let a = c.args in
+    let sum : c.index-sums-u.result ≡ get_or a.sums.now L.u t.none = get_or_read_under L.sums L.u _ _ t.none c.index-sums-u.is (omega arith) refl ∙ stored_next t.none L.invariant in
+    let sample : c.index-row-u.result ≡ get_or a.row.now L.u t.blank = get_or_read_under a.row.now L.u _ _ t.blank c.index-row-u.is (omega arith) refl in
+    stored_more L.invariant c.requires.0 c.loop-u-test.true (c.plus.ensures ∙ rw (sum, sample) refl)
 
 pub returns : goal.returns
-returns c =
+returns g c =
     rw (to_z-of_z c.ranges.weight) at (stored_done c.loop-u.invariant c.loop-u-test.false)

@@ -1,5 +1,4 @@
 -- `row_sums::finish` meets its contract: what is stored so far, then what was there. Assumes nothing.
-use Prim.Native.Nat.{◌-◌}
 use mathlib.Core.Path.{◌≡◌, ◌∙◌}
 use lib.ListN.{get_or}
 use mir.Syntax.{w32}

@@ -1,5 +1,5 @@
 -- `row_sums::finish` meets its contract: what is stored so far, then what was there. Assumes nothing.
-use Prim.Native.Nat.{◌-◌}
+
 use lib.ListN.{get_or}
 use lib.IntN.{pos}
 use Rattle.integers.specs.Divide.{floor_div}
@@ -8,6 +8,3 @@ use Rattle.row_sums.proofs.finish.Given as goal
 
 abbrev pub invariant-loop-u : goal.invariant-loop-u
 invariant-loop-u l = Stored (λ k. floor_div (get_or l.initial.sums k (pos 0)) 1024) l.n l.initial.sums l.sums l.u
-
-abbrev pub decreases-loop-u : goal.decreases-loop-u
-decreases-loop-u l = l.n - l.u

@@ -3,21 +3,9 @@ use Rattle.std.proofs.Common.{refl, arith}
 use Rattle.running_sums.proofs.Blocks.{lanes_first}
 use Rattle.running_sums.proofs.first_lanes.Goals as goal
 
-pub overflow_cast-one : goal.overflow_cast-one
-overflow_cast-one c =
-    omega (arith, c.type_inv.row 0)
-
-pub overflow_cast-two : goal.overflow_cast-two
-overflow_cast-two c =
-    omega (arith, c.type_inv.row 1)
-
 pub overflow_add-two : goal.overflow_add-two
 overflow_add-two c =
     record { fits = omega (arith, c.type_inv.row 0, c.type_inv.row 1) }
-
-pub overflow_cast-three : goal.overflow_cast-three
-overflow_cast-three c =
-    omega (arith, c.type_inv.row 2)
 
 pub overflow_add-three : goal.overflow_add-three
 overflow_add-three c =
@@ -25,4 +13,4 @@ overflow_add-three c =
 
 pub returns : goal.returns
 returns c =
-    lanes_first c.args.row.now _ c.requires (λ i. omega (arith, c.type_inv.row i)) refl refl refl refl
+    lanes_first c.args.row.now _ c.requires (λ i. omega (arith, c.type_inv.row i)) refl c.from-one.ensures (omega (arith, c.from.ensures)) (omega (arith, c.from-2.ensures))

@@ -1,5 +1,5 @@
 -- `running_sums::join_pairs` meets its contract: what is stored so far, then what was there: both that are read. Assumes nothing.
-use Rattle.std.proofs.Common.{◌+◌, ◌-◌, le_refl, arith}
+use Rattle.std.proofs.Common.{◌+◌, le_refl, arith}
 use Rattle.lists.proofs.Stored.{stored_none, stored_more, stored_behind, stored_done}
 use Rattle.running_sums.proofs.join_pairs.Goals as goal
 

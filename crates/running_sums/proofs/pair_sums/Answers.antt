@@ -1,5 +1,4 @@
 -- `running_sums::pair_sums` meets its contract: what is stored so far, then what was there. Assumes nothing.
-use Rattle.std.proofs.Common.{◌-◌}
 use Rattle.lists.proofs.Stored.{stored_none, stored_more, stored_done}
 use Rattle.running_sums.proofs.pair_sums.Goals as goal
 

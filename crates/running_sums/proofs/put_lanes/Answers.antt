@@ -1,5 +1,5 @@
 -- `running_sums::put_lanes` meets its contract. Assumes nothing.
-use Rattle.std.proofs.Common.{◌≡◌, ℕ, ◌+◌, ◌%◌, ◌^◌, get_or, add-zero, arith, length-set}
+use Rattle.std.proofs.Common.{◌≡◌, ℕ, ◌+◌, ◌%◌, ◌^◌, get_or, refl, add-zero, arith, length-set}
 use Rattle.lists.proofs.StoredAt.{stored}
 use Rattle.running_sums.specs.Fours.{lane}
 use Rattle.running_sums.proofs.Blocks.{four_stored}
@@ -23,4 +23,4 @@ returns c =
     let a = c.args in
     let f : ℕ → ℕ = λ i. (get_or a.sums.now (a.from + i) 0 + lane a.t i) % 2 ^ 32 in
     let first : a.from + 0 ≡ a.from = add-zero a.from in
-    four_stored f a.sums.now a.to _ _ _ _ c.requires.1 (rw first c.wrapping_add_u32-a.ensures.value) c.wrapping_add_u32-b.ensures.value c.wrapping_add_u32-c.ensures.value c.wrapping_add_u32-d.ensures.value
+    four_stored f a.sums.now a.to _ _ _ _ c.requires.1 (rw first refl) refl refl refl

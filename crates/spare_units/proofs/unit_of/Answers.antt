@@ -1,12 +1,8 @@
 -- `spare_units::unit_of` meets its contract. Assumes nothing.
-use native.Mathlib.Omega.{arith}
-use borrow.Author.Tests.{lt-ltb, le-ltb}
+use Rattle.std.proofs.Common.{◌∙◌, arith}
+use Rattle.spare_units.proofs.Bit.{bit-is, bit_le}
 use Rattle.spare_units.proofs.unit_of.Goals as goal
-
-pub returns-then-ahead-lacking : goal.returns-then-ahead-lacking
-returns-then-ahead-lacking c =
-    (omega arith, rw (← c.ahead.ensures, lt-ltb _ _ c.if-ahead-lacking.true))
 
 pub returns : goal.returns
 returns c =
-    (omega arith, rw (← c.ahead.ensures, le-ltb _ _ c.if-ahead-lacking.false))
+    (omega (arith, c.from.ensures, bit_le), rw (← c.ahead.ensures) (c.from.ensures ∙ bit-is _))

@@ -1,32 +1,13 @@
--- `stage_fields::radii` meets its contract, test by test. Assumes nothing.
-use borrow.Author.Tests.{le-leb, lt-leb, eq-eqb, ne_eqb}
-use Rattle.refusals.specs.Refusal.{verdict}
-use Rattle.recipe_bytes.specs.Bytes.{there}
-use Rattle.stage_fields.specs.StageFields.{radius_tests}
-use borrow.Author.Rules.{rules}
+-- `stage_fields::radii` meets its contract, radius by radius. Assumes nothing.
+use Rattle.std.proofs.lemmas.Result.{err_from_is_err_and}
+use Rattle.stage_fields.proofs.StageFieldLaws.{radii_of}
 use Rattle.stage_fields.proofs.radii.Goals as goal
 
-pub returns-then-part-lt1 : goal.returns-then-part-lt1
-unfolding verdict there radius_tests
-returns-then-part-lt1 c =
-    search (rules, le-leb, lt-leb, eq-eqb, ne_eqb)
-
-pub returns-then-part-gt15 : goal.returns-then-part-gt15
-unfolding verdict there radius_tests
-returns-then-part-gt15 c =
-    search (rules, le-leb, lt-leb, eq-eqb, ne_eqb)
-
-pub returns-then-part-lt2 : goal.returns-then-part-lt2
-unfolding verdict there radius_tests
-returns-then-part-lt2 c =
-    search (rules, le-leb, lt-leb, eq-eqb, ne_eqb)
-
-pub returns-then-part-gt15-2 : goal.returns-then-part-gt15-2
-unfolding verdict there radius_tests
-returns-then-part-gt15-2 c =
-    search (rules, le-leb, lt-leb, eq-eqb, ne_eqb)
+pub returns-in_err-radius_at : goal.returns-in_err-radius_at
+returns-in_err-radius_at c =
+    let p = err_from_is_err_and c.from_residual.result c.from_residual.ensures.1 in
+    rw (p.1, p.2, radii_of, ← c.in_err-radius_at.ensures)
 
 pub returns : goal.returns
-unfolding verdict there radius_tests
 returns c =
-    search (rules, le-leb, lt-leb, eq-eqb, ne_eqb)
+    rw (radii_of, ← c.in_ok-radius_at.ensures) c.radius_at-2.ensures

@@ -6,9 +6,7 @@ use Rattle.table_sizes.proofs.ring_size.Goals as goal
 
 pub overflow_mul-result-2 : goal.overflow_mul-result-2
 overflow_mul-result-2 c =
-    let a = c.args in
-    let p = c.requires in
-    record { fits = rw c.table_width.ensures (omega (arith, ring_small a.w a.window p.0 p.1 p.2)) }
+    record { fits = rw c.table_width.ensures (omega (arith, ring_small c.args.w c.args.window c.requires)) }
 
 pub returns : goal.returns
 returns c =

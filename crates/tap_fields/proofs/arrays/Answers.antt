@@ -1,7 +1,8 @@
 -- `tap_fields::arrays` meets its contract. Assumes nothing.
 use native.Mathlib.Omega.{arith}
+use Rattle.std.proofs.lemmas.Result.{err_from_is_err_and}
 use Rattle.axis_fields.proofs.AxisPassed.{sizes_known}
-use Rattle.tap_fields.proofs.TapFieldLaws.{taps_parts}
+use Rattle.tap_fields.proofs.TapFieldLaws.{taps_of}
 use Rattle.tap_fields.proofs.arrays.Goals as goal
 
 pub bounds-part-0 : goal.bounds-part-0
@@ -15,16 +16,40 @@ bounds-part-1 c =
 pub weights_of-requires : goal.weights_of-requires
 weights_of-requires c =
     let s = sizes_known c.args.real c.args.part.now c.requires in
-    omega (arith, s.few-across, s.few-down, c.wide-m.ensures, c.wide-n.ensures)
+    omega (arith, s.few-across, s.few-down)
+
+pub returns-in_err-offsets : goal.returns-in_err-offsets
+returns-in_err-offsets c =
+    let p = err_from_is_err_and c.from_residual.result c.from_residual.ensures.1 in
+    rw (p.1, p.2, taps_of _ _ c.requires, ← c.from-n.ensures, ← c.from-m.ensures, ← c.sizes_length-o.ensures.0, ← c.from.ensures, ← c.in_err-offsets.ensures)
+
+pub returns-in_err-offsets-2 : goal.returns-in_err-offsets-2
+returns-in_err-offsets-2 c =
+    let p = err_from_is_err_and c.from_residual-in_err-offsets-2.result c.from_residual-in_err-offsets-2.ensures.1 in
+    rw (
+      p.1,
+      p.2,
+      taps_of _ _ c.requires,
+      ← c.from-n.ensures,
+      ← c.from-m.ensures,
+      ← c.sizes_length-o.ensures.0,
+      ← c.from.ensures,
+      ← c.in_ok-offsets.ensures,
+      ← c.from-2.ensures,
+      ← c.in_err-offsets-2.ensures,
+    )
 
 pub returns : goal.returns
 returns c =
-    let a = c.args in
-    let e = c.wide-n.ensures.0 in
-    let f = c.wide-m.ensures.0 in
-    let g = c.sizes_length-o.ensures.0 in
-    rw (c.both.ensures, c.both-down.ensures)
-    (taps_parts a.real a.part.now c.requires
-    (rw (c.from-3.ensures, e, g) at c.offsets-2.ensures)
-    (rw (c.from.ensures, e, f, g) at c.offsets.ensures)
-    (rw (c.from-2.ensures, e, f, g) at c.weights_of.ensures))
+    rw (
+      taps_of _ _ c.requires,
+      ← c.from-n.ensures,
+      ← c.from-m.ensures,
+      ← c.sizes_length-o.ensures.0,
+      ← c.from.ensures,
+      ← c.in_ok-offsets.ensures,
+      ← c.from-2.ensures,
+      ← c.in_ok-offsets-2.ensures,
+      ← c.from-3.ensures,
+    )
+    c.weights_of.ensures

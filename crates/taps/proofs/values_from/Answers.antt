@@ -1,10 +1,10 @@
 -- `taps::values_from` meets its contract. Assumes nothing.
-use Prim.Native.Nat.{ℕ, ◌+◌, ◌-◌, ◌*◌, ◌≤◌}
+use Prim.Native.Nat.{ℕ, ◌+◌, ◌*◌, ◌≤◌}
 use native.Mathlib.Nat.{mul-le-mul}
 use native.Mathlib.Omega.{arith}
-use mathlib.Core.Path.{refl, sym, ap, ◌∙◌}
-use lib.ListN.{length, length-set}
-use Rattle.lists.proofs.Tabulate.{fill_none, fill_more, filled_front}
+use mathlib.Core.Path.{sym, ap, ◌∙◌}
+use lib.ListN.{length}
+use Rattle.lists.proofs.Tabulate.{fill_none, fill_more, filled_front, length_filled}
 use Rattle.taps.specs.TapBytes.{numerator_at}
 use Rattle.taps.specs.Held.{held_numerator}
 use Rattle.axis_fields.proofs.SizeLaws.{length_small}
@@ -13,7 +13,7 @@ use Rattle.taps.proofs.values_from.Goals as goal
 
 pub loop-i-init : goal.loop-i-init
 loop-i-init c =
-    (omega arith, fill_none _ _, refl)
+    fill_none _ _
 
 pub overflow_add-o : goal.overflow_add-o
 overflow_add-o c =
@@ -38,16 +38,12 @@ value_at-requires c =
     let p = place_there c.args.real c.args.w c.args.n i (length c.args.part.now) c.loop-i-test.true t.weights-there in
     rw c.weight_length-step.ensures (omega (arith, t.offsets-there, c.loop-i-test.true), p, λ r. t.weights-right r i c.loop-i-test.true)
 
-pub bounds-values-i : goal.bounds-values-i
-bounds-values-i c =
-    omega (arith, c.loop-i.invariant.2)
-
 pub loop-i-preserved : goal.loop-i-preserved
 loop-i-preserved c =
     let L = c.loop-i in
-    (omega arith, fill_more _ _ _ _ _ (omega (arith, L.invariant.2)) L.invariant.1 (c.value_at.ensures ∙ ap (λ (s : ℕ). held_numerator (numerator_at c.args.real c.args.part.now (c.args.w + s * L.i))) c.weight_length-step.ensures), simp length-set L.invariant.2)
+    fill_more _ _ _ _ _ (omega arith) L.invariant (c.value_at.ensures ∙ ap (λ (s : ℕ). held_numerator (numerator_at c.args.real c.args.part.now (c.args.w + s * L.i))) c.weight_length-step.ensures)
 
 pub returns : goal.returns
 returns c =
     let L = c.loop-i in
-    (sym L.invariant.2, filled_front _ c.args.n L.i _ _ L.invariant.0 c.loop-i-test.false L.invariant.1)
+    (rw L.invariant (sym (length_filled _ L.i _ (omega (arith, c.requires.few)))), filled_front _ c.args.n L.i _ _ (omega arith) c.loop-i-test.false L.invariant)

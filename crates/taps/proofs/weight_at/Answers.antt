@@ -18,8 +18,8 @@ unfolding weight_length
 bits_at-requires c =
     rw c.if-real.true at c.requires.1
 
-pub real_tap-t-requires : goal.real_tap-t-requires
-real_tap-t-requires c =
+pub real_tap-tap-requires : goal.real_tap-tap-requires
+real_tap-tap-requires c =
     rw c.bits_at.ensures (c.requires.2 (rw c.if-real.true tt))
 
 pub returns-then-real : goal.returns-then-real
@@ -28,7 +28,7 @@ returns-then-real c =
     let b = c.bits_at.result in
     let t : T (accepted b) = rw c.bits_at.ensures (c.requires.2 (rw c.if-real.true tt)) in
     let h : b < 2 ^ 32 = omega arith in
-    let w : c.real_tap-t.result.weight ≡ of_bits binary32 b = ap (λ r. r.weight) c.real_tap-t.ensures in
+    let w : c.real_tap-tap.result.weight ≡ of_bits binary32 b = ap (λ r. r.weight) c.real_tap-tap.ensures in
     rw (w, c.if-real.true) (real_usable b h t, real_numerator b h t ∙ ap numerator_bits c.bits_at.ensures, rw (real_numerator b h t) (numerator_small b t))
 
 pub ratio_at-requires : goal.ratio_at-requires
@@ -36,8 +36,8 @@ unfolding weight_length
 ratio_at-requires c =
     rw c.if-real.false at c.requires.1
 
-pub returns : goal.returns
+pub returns-else-real : goal.returns-else-real
 unfolding numerator_at
-returns c =
+returns-else-real c =
     let s : to_z w64 (of_z w64 c.ratio_at.result) ≡ c.ratio_at.result = search rules in
     rw (c.if-real.false, s) (tt, c.ratio_at.ensures.0, c.ratio_at.ensures.1)

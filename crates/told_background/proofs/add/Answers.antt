@@ -4,4 +4,4 @@ use Rattle.told_background.proofs.add.Goals as goal
 
 pub returns : goal.returns
 returns c =
-    changes (rw c.held-holds.ensures at c.add_still.ensures) c.changed.ensures
+    changes (rw c.held-holds.ensures at c.add_still.ensures) c.tell.ensures

@@ -4,4 +4,4 @@ use Rattle.told_background.proofs.mean.Goals as goal
 
 pub returns : goal.returns
 returns c =
-    means (rw c.held-holds.ensures at c.mean_still.ensures) c.mean.ensures
+    means (rw c.held-holds.ensures at c.mean_still.ensures) c.tell.ensures

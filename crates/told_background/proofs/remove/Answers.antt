@@ -4,4 +4,4 @@ use Rattle.told_background.proofs.remove.Goals as goal
 
 pub returns : goal.returns
 returns c =
-    changes (rw c.held-holds.ensures at c.remove_still.ensures) c.changed.ensures
+    changes (rw c.held-holds.ensures at c.remove_still.ensures) c.tell.ensures

@@ -4,4 +4,4 @@ use Rattle.told_verdict.proofs.verdict.Goals as goal
 
 pub returns : goal.returns
 returns c =
-    gives_verdict c.verdict.ensures c.judged.ensures
+    gives_verdict c.verdict.ensures c.tell.ensures

@@ -39,12 +39,12 @@ overflow_mul-n c =
 
 pub loop-k-init : goal.loop-k-init
 loop-k-init c =
-    (omega arith, everywhere-none _, refl)
+    everywhere-none _
 
 pub take_channel-requires : goal.take_channel-requires
 take_channel-requires c =
     let p = c.requires.1 in
-    (plane-small p, p.some.1, c.loop-k-test.true, p.raw-whole, omega (arith, p.room, c.loop-k.invariant.2))
+    (plane-small p, p.some.1, c.loop-k-test.true, p.raw-whole, omega (arith, p.room, c.loop-k.auto.work))
 
 pub slice_bounds-channel_near-end : goal.slice_bounds-channel_near-end
 slice_bounds-channel_near-end c =
@@ -73,14 +73,11 @@ pub loop-k-preserved : goal.loop-k-preserved
 loop-k-preserved c =
     let a = c.args in
     let L = c.loop-k in
-    let e = channel-front a.channels (a.w * a.h) L.k a.raw.now _ _ c.take_channel.ensures in (
-      omega (arith, c.loop-k-test.true),
-      everywhere-more (channel_test a.c a.w a.h a.channels (recipe_stages a.recipe.now) a.raw.now a.received.now) L.k L.invariant.1
-          (sym (channel-tested c.requires.0 a.c a.w a.h a.channels L.k a.raw.now a.received.now _ _ e c.channel_near.ensures) ∙ c.if-not-channel_near.false),
-      search rules,
-    )
+    let e = channel-front a.channels (a.w * a.h) L.k a.raw.now _ _ c.take_channel.ensures in
+    everywhere-more (channel_test a.c a.w a.h a.channels (recipe_stages a.recipe.now) a.raw.now a.received.now) L.k L.invariant
+    (sym (channel-tested c.requires.0 a.c a.w a.h a.channels L.k a.raw.now a.received.now _ _ e c.channel_near.ensures) ∙ c.if-not-channel_near.false)
 
 pub returns : goal.returns
 unfolding all_near
 returns c =
-    sym (rw (le_antisymm c.loop-k.invariant.0 c.loop-k-test.false) at c.loop-k.invariant.1)
+    sym (rw (le_antisymm c.loop-k.auto.k-end c.loop-k-test.false) at c.loop-k.invariant)

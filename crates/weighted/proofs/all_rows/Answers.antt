@@ -2,7 +2,7 @@
 use Prim.Native.Nat.{ℕ, ◌+◌, ◌*◌, ◌-◌, ◌≤◌, ◌<◌}
 use native.Mathlib.Nat.{mul-le-mul}
 use native.Mathlib.Omega.{arith}
-use mathlib.Core.Path.{refl, sym, ap, ◌∙◌}
+use mathlib.Core.Path.{◌≡◌, refl, sym, ap, ◌∙◌}
 use mathlib.Core.List.{List, ◌++◌}
 use lib.ListN.{length, drop, take, length-drop}
 use lib.IntN.{ℤ}
@@ -19,15 +19,20 @@ small-place {y} {count} h k l = mul-le-mul {n₂ = 8222} {m₂ = 8192} (omega (a
 
 pub loop-y-init : goal.loop-y-init
 loop-y-init c =
-    (rows_stored_none _ _ _ _, refl)
+    let none : 0 * c.args.frame.width ≡ 0 = omega arith in
+    (rw none (rows_stored_none _ _ _ _), refl)
 
 pub padded_row-requires : goal.padded_row-requires
 padded_row-requires c =
     (c.requires.0, omega (arith, c.requires.1, c.requires.2, c.loop-y-test.true), omega (arith, c.loop-y.invariant.1, c.requires.0.width.1))
 
-pub offset_bounds-rows-at : goal.offset_bounds-rows-at
-offset_bounds-rows-at c =
-    record { fits = omega (arith, small-place c.loop-y-test.true c.requires.2 c.requires.0.width.1, c.loop-y.invariant.0.place) }
+pub overflow_mul-y : goal.overflow_mul-y
+overflow_mul-y c =
+    record { fits = omega (arith, small-place c.loop-y-test.true c.requires.2 c.requires.0.width.1) }
+
+pub offset_bounds-rows-y : goal.offset_bounds-rows-y
+offset_bounds-rows-y c =
+    record { fits = omega (arith, small-place c.loop-y-test.true c.requires.2 c.requires.0.width.1) }
 
 pub slice_bounds-row_values-count : goal.slice_bounds-row_values-count
 slice_bounds-row_values-count c =
@@ -42,16 +47,12 @@ row_values-requires c =
     let a = c.args in
     let p = c.requires in
     let L = c.loop-y in
+    let at = L.y * a.frame.width in
     let long : a.frame.width + 30 ≤ length L.row = omega (arith, L.invariant.1, p.0.width.1) in (
       p.0.width.1,
       rw (c.padded_row.ensures, length_filled _ _ L.row long) long,
-      rw (tail_mid L.at L.rows, length-drop) (omega (arith, row_room L.invariant.0 c.loop-y-test.true p.3, L.invariant.0.long)),
-      p.4,
+      rw (tail_mid at L.rows, length-drop) (omega (arith, row_room L.invariant.0 c.loop-y-test.true p.3, L.invariant.0.long)),
     )
-
-pub overflow_add-at : goal.overflow_add-at
-overflow_add-at c =
-    record { fits = omega (arith, small-place c.loop-y-test.true c.requires.2 c.requires.0.width.1, c.loop-y.invariant.0.place, c.requires.0.width.1) }
 
 pub loop-y-preserved : goal.loop-y-preserved
 loop-y-preserved c =
@@ -59,10 +60,12 @@ loop-y-preserved c =
     let p = c.requires in
     let L = c.loop-y in
     let w = a.frame.width in
+    let at = L.y * w in
+    let next : (L.y + 1) * w ≡ at + w = omega arith in
     let long : w + 30 ≤ length L.row = omega (arith, L.invariant.1, p.0.width.1) in
     let e = c.padded_row.ensures in
-    let part = c.row_values.ensures ∙ ap (λ (l : List ℤ). l ++ drop w (take (length L.rows - L.at) (drop L.at L.rows))) (row-supplied a.axis w (a.first + L.y) (padded a.frame a.plane.now) L.row _ p.4 e) in
-    (rows_stored_more L.invariant.0 c.loop-y-test.true _ p.3 part, rw e (L.invariant.1 ∙ sym (length_filled _ _ L.row long)))
+    let part = c.row_values.ensures ∙ ap (λ (l : List ℤ). l ++ drop w (take (length L.rows - at) (drop at L.rows))) (row-supplied a.axis w (a.first + L.y) (padded a.frame a.plane.now) L.row _ e) in
+    (rw next (rows_stored_more L.invariant.0 c.loop-y-test.true _ p.3 part), rw e (L.invariant.1 ∙ sym (length_filled _ _ L.row long)))
 
 pub returns : goal.returns
 returns c =

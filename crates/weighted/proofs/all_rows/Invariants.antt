@@ -1,5 +1,5 @@
 -- `weighted::all_rows` meets its contract: row by row. Assumes nothing.
-use Prim.Native.Nat.{◌+◌, ◌-◌}
+use Prim.Native.Nat.{◌+◌, ◌*◌}
 use mathlib.Core.Path.{◌≡◌}
 use lib.ListN.{length}
 use Rattle.lists.proofs.Stored.{StoredRows}
@@ -8,7 +8,4 @@ use Rattle.tap_sums.specs.HeldSums.{held_row}
 use Rattle.weighted.proofs.all_rows.Given as goal
 
 abbrev pub invariant-loop-y : goal.invariant-loop-y
-invariant-loop-y l = StoredRows (λ u v. held_row l.axis (padded l.frame l.plane) u (l.first + v)) l.frame.width l.count l.initial.rows l.rows l.at l.y × (8224 ≡ length l.row)
-
-abbrev pub decreases-loop-y : goal.decreases-loop-y
-decreases-loop-y l = l.count - l.y
+invariant-loop-y l = StoredRows (λ u v. held_row l.axis (padded l.frame l.plane) u (l.first + v)) l.frame.width l.count l.initial.rows l.rows (l.y * l.frame.width) l.y × (8224 ≡ length l.row)

@@ -1,5 +1,5 @@
 -- `weighted::reach_of` meets its contract: what the offsets so far reach. Assumes nothing.
-use Prim.Native.Nat.{ℕ, ◌-◌}
+use Prim.Native.Nat.{ℕ}
 use native.Mathlib.Nat.{le_antisymm}
 use native.Mathlib.Omega.{arith}
 use mathlib.Core.Path.{subst}
@@ -9,14 +9,14 @@ use Rattle.weighted.proofs.reach_of.Goals as goal
 
 pub loop-k-init : goal.loop-k-init
 loop-k-init c =
-    (omega arith, reaches_none _)
+    reaches_none _
 
 pub loop-k-preserved : goal.loop-k-preserved
 loop-k-preserved c =
     let a = c.args in
     let L = c.loop-k in
-    (omega (arith, c.loop-k-test.true), reaches_more a.axis.offsets L.k L.first L.last _ _ L.invariant.1 (c.requires.near L.k c.loop-k-test.true) c.smaller-first.ensures c.larger-last.ensures)
+    reaches_more a.axis.offsets L.k L.first L.last _ _ L.invariant (a.axis.near L.k c.loop-k-test.true) (grind (arith, c.min-first.ensures)) (grind (arith, c.max-last.ensures))
 
 pub returns : goal.returns
 returns c =
-    subst (λ (n : ℕ). Reaches c.args.axis.offsets n c.loop-k.first c.loop-k.last) (le_antisymm c.loop-k.invariant.0 c.loop-k-test.false) c.loop-k.invariant.1
+    subst (λ (n : ℕ). Reaches c.args.axis.offsets n c.loop-k.first c.loop-k.last) (le_antisymm c.loop-k.auto.k-end c.loop-k-test.false) c.loop-k.invariant

@@ -4,7 +4,8 @@ use native.Mathlib.Nat.{mul-le-mul}
 use native.Mathlib.Omega.{arith}
 use mathlib.Core.Path.{◌≡◌, sym, ◌∙◌}
 use mathlib.Core.List.{List, ◌++◌}
-use lib.ListN.{drop, take, length-append}
+use Rattle.std.proofs.Common.{Fits, w8, rules}
+use lib.ListN.{get_or, drop, take, length-append}
 use lib.Seq.{take_at}
 use lib.IntN.{ℤ}
 use Rattle.frame.specs.Framed.{worked}
@@ -12,7 +13,7 @@ use Rattle.lists.specs.Tabulate.{raster}
 use Rattle.lists.proofs.Raster.{raster_ext, length-raster}
 use Rattle.frame.specs.Padded.{padded}
 use Rattle.frame.proofs.Supplied.{padded-le}
-use Rattle.weighted.proofs.Model.{ready_light, level_model, made_small, made_level}
+use Rattle.weighted.proofs.Model.{level_model, made_small, made_level}
 use Rattle.weighted.proofs.weighted_stage.Goals as goal
 
 module _ (first last h w n : ℕ) where
@@ -33,10 +34,6 @@ module _ (first last h w n : ℕ) where
 take-rows : (g : ℕ → ℕ → ℤ) (w n : ℕ) (d l : List ℤ) → l ≡ raster g w n ++ drop (n * w) d → take (n * w) l ≡ raster g w n
 take-rows g w n d l e = rw e (take_at (raster g w n) (drop (n * w) d) (n * w) (length-raster g w n))
 
-pub reach_of-reach-requires : goal.reach_of-reach-requires
-reach_of-reach-requires c =
-    ready_light c.requires.3.1
-
 pub overflow_sub-count : goal.overflow_sub-count
 overflow_sub-count c =
     omega (arith, c.reach_of-reach.ensures.own.0, c.reach_of-reach.ensures.own.1)
@@ -45,8 +42,8 @@ pub overflow_add-count : goal.overflow_add-count
 overflow_add-count c =
     record { fits = omega (arith, c.reach_of-reach.ensures.near, c.requires.0.height.1) }
 
-pub overflow_mul-n : goal.overflow_mul-n
-overflow_mul-n c =
+pub overflow_mul-count : goal.overflow_mul-count
+overflow_mul-count c =
     let r = c.reach_of-reach.result in
     let f = c.args.frame in
     record { fits = omega (arith, small r.first r.last f.height f.width 0 c.reach_of-reach.ensures.near c.requires.0.height.1 c.requires.0.width.1) }
@@ -57,7 +54,7 @@ all_rows-requires c =
     let p = c.requires in
     let r = c.reach_of-reach.result in
     let e = c.reach_of-reach.ensures in
-    (p.0, e.own.0, omega (arith, e.near, p.0.height.1), few-rows r.first r.last f.height f.width _ e.near p.1, ready_light p.2.1)
+    (p.0, e.own.0, omega (arith, e.near, p.0.height.1), few-rows r.first r.last f.height f.width _ e.near p.1)
 
 pub slice_bounds-all_columns-end : goal.slice_bounds-all_columns-end
 slice_bounds-all_columns-end c =
@@ -88,9 +85,8 @@ all_columns-requires c =
       p.0.width.1,
       p.0.height.1,
       p.0.whole,
-      ready_light p.3.1,
       c.reach_of-reach.ensures,
       rw t (length-raster _ _ _),
-      rw t (made_small a.across a.down f.width f.height r.first r.last (padded f a.plane.now) (ready_light p.2.1)
-          (λ x y. padded-le f a.plane.now x y (omega (arith, c.well_formed)) (λ i. omega (arith, (c.slice_known-1.given i).fits)))),
+      rw t (made_small a.across a.down f.width f.height r.first r.last (padded f a.plane.now)
+          (λ x y. padded-le f a.plane.now x y (omega (arith, c.well_formed)) (λ i. let byte : Fits w8 (get_or a.plane.now i 0) = search rules depth 1 in omega arith))),
     )

@@ -1,8 +1,8 @@
 -- `weighted_columns::all_columns` meets its contract: row by row. Assumes nothing.
-use Prim.Native.Nat.{ℕ, ◌*◌, ◌-◌, ◌≤◌, ◌<◌}
+use Prim.Native.Nat.{ℕ, ◌+◌, ◌*◌, ◌-◌, ◌≤◌, ◌<◌}
 use native.Mathlib.Nat.{mul-le-mul}
 use native.Mathlib.Omega.{arith}
-use mathlib.Core.Path.{refl, sym, ap, ◌∙◌}
+use mathlib.Core.Path.{◌≡◌, refl, sym, ap, ◌∙◌}
 use mathlib.Core.List.{List, ◌++◌, append-nil}
 use lib.ListN.{length, get_or, drop, take, length-drop, drop_of_length-le}
 use lib.Seq.{get_or-drop}
@@ -19,33 +19,34 @@ small-place {v} {h} b k l = mul-le-mul {n₂ = 8192} {m₂ = 8192} (omega (arith
 
 pub loop-v-init : goal.loop-v-init
 loop-v-init c =
-    (rows_stored_none _ _ _ _, refl)
+    let none : 0 * c.args.w ≡ 0 = omega arith in
+    (rw none (rows_stored_none _ _ _ _), refl)
 
 pub offset_bounds-rows-at : goal.offset_bounds-rows-at
 offset_bounds-rows-at c =
-    record { fits = omega (arith, small-place c.loop-v-test.true c.requires.1 c.requires.0, c.loop-v.invariant.0.place) }
+    record { fits = omega (arith, small-place c.loop-v-test.true c.requires.1 c.requires.0) }
 
 pub slice_bounds-column_sums-count : goal.slice_bounds-column_sums-count
 slice_bounds-column_sums-count c =
     let a = c.args in
-    omega (arith, column_fits c.loop-v.v a.h 0 a.reach.first a.reach.last a.w c.loop-v-test.true (omega arith), c.loop-v.invariant.0.place, c.requires.5)
+    omega (arith, column_fits c.loop-v.v a.h 0 a.reach.first a.reach.last a.w c.loop-v-test.true (omega arith), c.requires.4)
 
 pub slice_bounds-column_sums-start : goal.slice_bounds-column_sums-start
 slice_bounds-column_sums-start c =
     let a = c.args in
-    omega (arith, column_fits c.loop-v.v a.h 0 a.reach.first a.reach.last a.w c.loop-v-test.true (omega arith), c.loop-v.invariant.0.place, c.requires.5)
+    omega (arith, column_fits c.loop-v.v a.h 0 a.reach.first a.reach.last a.w c.loop-v-test.true (omega arith), c.requires.4)
 
 pub column_sums-requires : goal.column_sums-requires
 column_sums-requires c =
     let a = c.args in
     let p = c.requires in
     let L = c.loop-v in
+    let at = L.v * a.w in
     let R = a.rows.now in (
       p.0,
       omega (arith, p.0, L.invariant.1),
-      p.3,
-      λ i b. ((p.4.all i b).0, rw (tail_mid L.at R, length-drop) (omega (arith, column_fits L.v a.h (get_or a.axis.offsets i 0) a.reach.first a.reach.last a.w c.loop-v-test.true (p.4.all i b).1, L.invariant.0.place, p.5))),
-      λ i. rw (tail_mid L.at R, get_or-drop L.at R i (pos 0)) (p.6 _),
+      λ i b. ((p.3.all i b).0, rw (tail_mid at R, length-drop) (omega (arith, column_fits L.v a.h (get_or a.axis.offsets i 0) a.reach.first a.reach.last a.w c.loop-v-test.true (p.3.all i b).1, p.4))),
+      λ i. rw (tail_mid at R, get_or-drop at R i (pos 0)) (p.5 _),
     )
 
 pub slice_bounds-finish-count : goal.slice_bounds-finish-count
@@ -61,24 +62,27 @@ finish-requires c =
     let a = c.args in
     let p = c.requires in
     let L = c.loop-v in
+    let at = L.v * a.w in
     let long : a.w ≤ length L.sums = omega (arith, L.invariant.1, p.0) in (
       rw (c.column_sums.ensures, length_filled _ _ L.sums long) long,
-      rw (tail_mid L.at L.plane, length-drop) (omega (arith, row_room L.invariant.0 c.loop-v-test.true {m = length a.plane.now} (omega (arith, p.2)), L.invariant.0.long)),
+      rw (tail_mid at L.plane, length-drop) (omega (arith, row_room L.invariant.0 c.loop-v-test.true {m = length a.plane.now} (omega (arith, p.2)), L.invariant.0.long)),
     )
 
-pub overflow_add-at : goal.overflow_add-at
-overflow_add-at c =
-    record { fits = omega (arith, small-place c.loop-v-test.true c.requires.1 c.requires.0, c.loop-v.invariant.0.place, c.requires.0) }
+pub overflow_mul-at : goal.overflow_mul-at
+overflow_mul-at c =
+    record { fits = omega (arith, small-place c.loop-v-test.true c.requires.1 c.requires.0) }
 
 pub loop-v-preserved : goal.loop-v-preserved
 loop-v-preserved c =
     let a = c.args in
     let p = c.requires in
     let L = c.loop-v in
+    let at = L.v * a.w in
+    let next : (L.v + 1) * a.w ≡ at + a.w = omega arith in
     let long : a.w ≤ length L.sums = omega (arith, L.invariant.1, p.0) in
     let e = c.column_sums.ensures in
-    let part = c.finish.ensures ∙ ap (λ (l : List ℕ). l ++ drop a.w (take (length L.plane - L.at) (drop L.at L.plane))) (level-row a.axis a.w a.reach.first a.rows.now L.v L.at L.sums _ L.invariant.0.place e) in
-    (rows_stored_more L.invariant.0 c.loop-v-test.true _ (omega (arith, p.2)) part, rw e (L.invariant.1 ∙ sym (length_filled _ _ L.sums long)))
+    let part = c.finish.ensures ∙ ap (λ (l : List ℕ). l ++ drop a.w (take (length L.plane - at) (drop at L.plane))) (level-row a.axis a.w a.reach.first a.rows.now L.v at L.sums _ L.invariant.0.place e) in
+    (rw next (rows_stored_more L.invariant.0 c.loop-v-test.true _ (omega (arith, p.2)) part), rw e (L.invariant.1 ∙ sym (length_filled _ _ L.sums long)))
 
 pub returns : goal.returns
 unfolding level_at

@@ -1,5 +1,5 @@
 -- `weighted_columns::all_columns` meets its contract: row by row. Assumes nothing.
-use Prim.Native.Nat.{◌-◌}
+use Prim.Native.Nat.{◌*◌}
 use mathlib.Core.Path.{◌≡◌}
 use lib.ListN.{length}
 use Rattle.lists.proofs.Stored.{StoredRows}
@@ -7,7 +7,4 @@ use Rattle.tap_sums.proofs.PartialSums.{level_at}
 use Rattle.weighted_columns.proofs.all_columns.Given as goal
 
 abbrev pub invariant-loop-v : goal.invariant-loop-v
-invariant-loop-v l = StoredRows (level_at l.axis l.w l.first l.rows) l.w l.h l.initial.plane l.plane l.at l.v × (8192 ≡ length l.sums)
-
-abbrev pub decreases-loop-v : goal.decreases-loop-v
-decreases-loop-v l = l.h - l.v
+invariant-loop-v l = StoredRows (level_at l.axis l.w l.reach.first l.rows) l.w l.h l.initial.plane l.plane (l.v * l.w) l.v × (8192 ≡ length l.sums)

@@ -1,5 +1,5 @@
 -- `weighted_columns::column_sums` meets its contract: tap by tap. Assumes nothing.
-use Prim.Native.Nat.{ℕ, ◌*◌, ◌-◌, ◌≤◌}
+use Prim.Native.Nat.{ℕ, ◌+◌, ◌*◌, ◌-◌, ◌≤◌}
 use native.Mathlib.Nat.{le_antisymm, add_comm, mul-le-mul}
 use native.Mathlib.Omega.{arith}
 use mathlib.Core.Path.{◌≡◌, refl, ap, ◌∙◌}
@@ -23,28 +23,28 @@ small-place o first w h l = mul-le-mul {n₂ = 30} {m₂ = 8192} (omega (arith, 
 pub loop-k-init : goal.loop-k-init
 unfolding partial held_sum
 loop-k-init c =
-    let e = c.start.ensures in
-    (omega arith, e ∙ rw (filled_behind _ _ _ _ e), refl)
+    let e = c.start_at.ensures in
+    e ∙ rw (filled_behind _ _ _ _ e)
 
 pub overflow_sub-at : goal.overflow_sub-at
 overflow_sub-at c =
-    omega (arith, (c.requires.3 c.loop-k.k c.loop-k-test.true).0)
+    omega (arith, (c.requires.2 c.loop-k.k c.loop-k-test.true).0)
 
 pub overflow_mul-at : goal.overflow_mul-at
 overflow_mul-at c =
-    record { fits = omega (arith, small-place (get_or c.args.axis.offsets c.loop-k.k 0) c.args.first c.args.w (c.requires.2.near c.loop-k.k c.loop-k-test.true) c.requires.0) }
+    record { fits = omega (arith, small-place (get_or c.args.axis.offsets c.loop-k.k 0) c.args.first c.args.w (c.args.axis.near c.loop-k.k c.loop-k-test.true) c.requires.0) }
 
 pub offset_bounds-rows-at : goal.offset_bounds-rows-at
 offset_bounds-rows-at c =
-    record { fits = omega (arith, small-place (get_or c.args.axis.offsets c.loop-k.k 0) c.args.first c.args.w (c.requires.2.near c.loop-k.k c.loop-k-test.true) c.requires.0) }
+    record { fits = omega (arith, small-place (get_or c.args.axis.offsets c.loop-k.k 0) c.args.first c.args.w (c.args.axis.near c.loop-k.k c.loop-k-test.true) c.requires.0) }
 
 pub slice_bounds-add_tap-count : goal.slice_bounds-add_tap-count
 slice_bounds-add_tap-count c =
-    omega (arith, (c.requires.3 c.loop-k.k c.loop-k-test.true).1)
+    omega (arith, (c.requires.2 c.loop-k.k c.loop-k-test.true).1)
 
 pub slice_bounds-add_tap-start : goal.slice_bounds-add_tap-start
 slice_bounds-add_tap-start c =
-    omega (arith, (c.requires.3 c.loop-k.k c.loop-k-test.true).1)
+    omega (arith, (c.requires.2 c.loop-k.k c.loop-k-test.true).1)
 
 pub add_tap-requires : goal.add_tap-requires
 add_tap-requires c =
@@ -54,31 +54,29 @@ add_tap-requires c =
     let p = c.requires in
     let at = (get_or a.axis.offsets L.k 0 - a.first) * a.w in
     let weight : to_z w32 (of_z w32 (get_or a.axis.weights L.k (pos 0))) ≡ get_or a.axis.weights L.k (pos 0) = search rules in (
-      omega (arith, L.invariant.2, p.1),
-      rw (tail_mid at a.rows.now, length-drop) (omega (arith, (p.3 L.k t).1)),
-      rw weight (omega (arith, weight_size a.axis.weights L.k a.axis.len t, p.2.size)),
-      λ u b. rw (filled_at _ a.w _ L.sums (pos 0) u L.invariant.1 b)
-          (omega (arith, partial_size a.axis.offsets a.axis.weights (at_offset a.rows.now a.w a.first) (pos 2097152) 65536 (λ v o. p.4 _) L.k a.axis.len L.invariant.0 p.2.size u)),
-      λ u b. rw (shifted a.rows.now at u (pos 0)) (p.4 _),
+      omega (arith, p.1),
+      rw (tail_mid at a.rows.now, length-drop) (omega (arith, (p.2 L.k t).1)),
+      rw weight (omega (arith, weight_size a.axis.weights L.k a.axis.len t, a.axis.size)),
+      λ u b. (
+        rw (filled_at _ a.w _ L.sums (pos 0) u L.invariant b)
+            (omega (arith, partial_size a.axis.offsets a.axis.weights (at_offset a.rows.now a.w a.first) (pos 2097152) 65536 (λ v o. p.3 _) L.k a.axis.len (omega (arith, t)) a.axis.size u)),
+        rw (shifted a.rows.now at u (pos 0)) (omega (arith, p.3 (u + at))),
+      ),
     )
 
 pub loop-k-preserved : goal.loop-k-preserved
 loop-k-preserved c =
     let a = c.args in
     let L = c.loop-k in
-    let e = c.add_tap.ensures in
     let at = (get_or a.axis.offsets L.k 0 - a.first) * a.w in
-    let weight : to_z w32 (of_z w32 (get_or a.axis.weights L.k (pos 0))) ≡ get_or a.axis.weights L.k (pos 0) = search rules in (
-      omega (arith, c.loop-k-test.true),
-      partial_more a.axis.offsets a.axis.weights (at_offset a.rows.now a.w a.first) (pos 2097152) L.k a.w _ L.sums _ _ _ weight
-          (λ u b. shifted a.rows.now at u (pos 0) ∙ ap (λ (i : ℕ). get_or a.rows.now i (pos 0)) (add_comm u at)) L.invariant.1 e,
-      rw e (length_filled _ a.w L.sums (omega (arith, L.invariant.2, c.requires.1)) ∙ L.invariant.2),
-    )
+    let weight : to_z w32 (of_z w32 (get_or a.axis.weights L.k (pos 0))) ≡ get_or a.axis.weights L.k (pos 0) = search rules in
+    partial_more a.axis.offsets a.axis.weights (at_offset a.rows.now a.w a.first) (pos 2097152) L.k a.w _ L.sums _ _ _ weight
+    (λ u b. shifted a.rows.now at u (pos 0) ∙ ap (λ (i : ℕ). get_or a.rows.now i (pos 0)) (add_comm u at)) L.invariant c.add_tap.ensures
 
 pub returns : goal.returns
 unfolding partial
 returns c =
     let a = c.args in
     let L = c.loop-k in
-    let k = le_antisymm L.invariant.0 c.loop-k-test.false in
-    rw (filled_behind _ a.w _ _ c.start.ensures) at (rw k at L.invariant.1)
+    let k = le_antisymm L.auto.k-end c.loop-k-test.false in
+    rw (filled_behind _ a.w _ _ c.start_at.ensures) at (rw k at L.invariant)

@@ -13,7 +13,4 @@ abbrev pub at_offset : List ℤ → ℕ → ℕ → ℕ → ℕ → ℤ
 at_offset rows w first u o = get_or rows ((o - first) * w + u) (pos 0)
 
 abbrev pub invariant-loop-k : goal.invariant-loop-k
-invariant-loop-k l = (l.k ≤ l.len) × (l.sums ≡ tabulate (partial l.offsets l.weights (at_offset l.rows l.w l.first) (pos 2097152) l.k) l.w ++ drop l.w l.initial.sums) × (length l.sums ≡ length l.initial.sums)
-
-abbrev pub decreases-loop-k : goal.decreases-loop-k
-decreases-loop-k l = l.len - l.k
+invariant-loop-k l = l.sums ≡ tabulate (partial l.axis.offsets l.axis.weights (at_offset l.rows l.w l.first) (pos 2097152) l.k) l.w ++ drop l.w l.initial.sums

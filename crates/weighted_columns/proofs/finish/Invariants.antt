@@ -8,6 +8,3 @@ use Rattle.weighted_columns.proofs.finish.Given as goal
 
 abbrev pub invariant-loop-u : goal.invariant-loop-u
 invariant-loop-u l = Stored (λ k. clamp 255 (floor_div (get_or l.sums k (pos 0)) (2 ^ 22))) l.n l.initial.dst l.dst l.u
-
-abbrev pub decreases-loop-u : goal.decreases-loop-u
-decreases-loop-u l = l.n - l.u

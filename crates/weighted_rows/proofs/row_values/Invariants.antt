@@ -1,8 +1,8 @@
 -- `weighted_rows::row_values` meets its contract: tap by tap. Assumes nothing.
-use Prim.Native.Nat.{ℕ, ◌+◌, ◌-◌, ◌≤◌}
+use Prim.Native.Nat.{ℕ, ◌+◌}
 use mathlib.Core.Path.{◌≡◌}
 use mathlib.Core.List.{List, ◌++◌}
-use lib.ListN.{length, get_or, drop}
+use lib.ListN.{get_or, drop}
 use lib.IntN.{ℤ, pos}
 use Rattle.lists.specs.Tabulate.{tabulate}
 use Rattle.tap_sums.proofs.PartialSums.{partial}
@@ -13,7 +13,4 @@ abbrev pub at_offset : List ℕ → ℕ → ℕ → ℤ
 at_offset row u o = pos (get_or row (u + o) 0)
 
 abbrev pub invariant-loop-k : goal.invariant-loop-k
-invariant-loop-k l = (l.k ≤ l.len) × (l.sums ≡ tabulate (partial l.offsets l.weights (at_offset l.row) (pos 512) l.k) l.n ++ drop l.n l.initial.sums) × (length l.sums ≡ length l.initial.sums)
-
-abbrev pub decreases-loop-k : goal.decreases-loop-k
-decreases-loop-k l = l.len - l.k
+invariant-loop-k l = l.sums ≡ tabulate (partial l.axis.offsets l.axis.weights (at_offset l.row) (pos 512) l.k) l.n ++ drop l.n l.initial.sums

@@ -1,5 +1,4 @@
 -- `whole_taps::numerators` meets its contract: what is stored so far, then what was there. Assumes nothing.
-use Prim.Native.Nat.{◌-◌}
 use native.Mathlib.Omega.{arith}
 use mathlib.Core.Path.{◌≡◌, refl, sym, ◌∙◌}
 use mir.Syntax.{w32}

@@ -24,13 +24,13 @@ enter-more-requires c =
     let few : (g : ℕ) → get_or a.counts.now g 0 ≤ 961 = λ g. count_few (column_in a.frame a.plane.now a.rows.now a.down) a.counts.now a.down (a.x - 1) a.across g (λ z. length-column a.frame a.plane.now a.rows.now a.down z p.1.few) p.4 p.3 p.7 in
     (p.0, p.1, p.4, omega (arith, p.6, p.3), search (rules, size), λ g. le_trans (counted_ge _ _ _ g (search (rules, size)) c.leave-fewer.ensures.0) (few g))
 
-pub overflow_sub-below : goal.overflow_sub-below
-overflow_sub-below c =
+pub overflow_sub-result : goal.overflow_sub-result
+overflow_sub-result c =
     let p = c.requires in
     leaving_le _ _ _ _ p.7 _ _ _ (omega (arith, c.well_formed)) p.2 p.8 c.leave-fewer.ensures.1
 
-pub overflow_add-below : goal.overflow_add-below
-overflow_add-below c =
+pub overflow_add-result : goal.overflow_add-result
+overflow_add-result c =
     let a = c.args in
     let p = c.requires in
     let level : a.at.level < 256 = omega (arith, c.well_formed) in

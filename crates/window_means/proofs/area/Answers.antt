@@ -8,14 +8,12 @@ use Rattle.window_means.proofs.area.Goals as goal
 pub overflow_mul-result-3 : goal.overflow_mul-result-3
 unfolding Model.area
 overflow_mul-result-3 c =
-    let p = c.requires in
-    record { fits = omega (arith, area-le c.args.window.r c.args.window.s 15 15 p.0 p.1) }
+    record { fits = omega (arith, area-le c.args.window.r c.args.window.s 15 15 c.args.window.near.0 c.args.window.near.1) }
 
 pub overflow_cast-result : goal.overflow_cast-result
 unfolding Model.area
 overflow_cast-result c =
-    let p = c.requires in
-    omega (arith, area-le c.args.window.r c.args.window.s 15 15 p.0 p.1)
+    omega (arith, area-le c.args.window.r c.args.window.s 15 15 c.args.window.near.0 c.args.window.near.1)
 
 pub returns : goal.returns
 unfolding Model.area

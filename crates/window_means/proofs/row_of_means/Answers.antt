@@ -12,24 +12,24 @@ use Rattle.window_means.proofs.row_of_means.Goals as goal
 pub next_start-upper-requires : goal.next_start-upper-requires
 next_start-upper-requires c =
     let p = c.requires in
-    (p.0, p.1, p.2, (p.6.0 + (2 * c.args.window.s + 1), p.6.1))
+    (p.0, (p.4.0 + (2 * c.args.window.s + 1), p.4.1))
 
 -- the upper edge lies in the sums
 pub slice_bounds-mean_row-count : goal.slice_bounds-mean_row-count
 slice_bounds-mean_row-count c =
     let a = c.args in
     let p = c.requires in
-    let v = p.6.0 in
-    let eu = c.next_start-upper.ensures (v + (2 * a.window.s + 1)) p.6.1 in
-    omega (arith, upper_fits a.w a.window v a.lower _ p.6.1 eu p.3)
+    let v = p.4.0 in
+    let eu = c.next_start-upper.ensures (v + (2 * a.window.s + 1)) p.4.1 in
+    omega (arith, upper_fits a.w a.window v a.lower _ p.4.1 eu p.1)
 
 pub offset_bounds-sums-upper : goal.offset_bounds-sums-upper
 offset_bounds-sums-upper c =
     let a = c.args in
     let p = c.requires in
-    let v = p.6.0 in
-    let eu = c.next_start-upper.ensures (v + (2 * a.window.s + 1)) p.6.1 in
-    record { fits = omega (arith, upper_fits a.w a.window v a.lower _ p.6.1 eu p.3) }
+    let v = p.4.0 in
+    let eu = c.next_start-upper.ensures (v + (2 * a.window.s + 1)) p.4.1 in
+    record { fits = omega (arith, upper_fits a.w a.window v a.lower _ p.4.1 eu p.1) }
 
 pub slice_bounds-mean_row-start : goal.slice_bounds-mean_row-start
 slice_bounds-mean_row-start c = slice_bounds-mean_row-count c
@@ -39,9 +39,9 @@ pub slice_bounds-mean_row-count-2 : goal.slice_bounds-mean_row-count-2
 slice_bounds-mean_row-count-2 c =
     let a = c.args in
     let p = c.requires in
-    let v = p.6.0 in
-    let eu = c.next_start-upper.ensures (v + (2 * a.window.s + 1)) p.6.1 in
-    omega (arith, lower_fits a.w a.window v a.lower _ p.6.1 eu p.3)
+    let v = p.4.0 in
+    let eu = c.next_start-upper.ensures (v + (2 * a.window.s + 1)) p.4.1 in
+    omega (arith, lower_fits a.w a.window v a.lower _ p.4.1 eu p.1)
 
 pub slice_bounds-mean_row-start-2 : goal.slice_bounds-mean_row-start-2
 slice_bounds-mean_row-start-2 c = slice_bounds-mean_row-count-2 c
@@ -51,17 +51,17 @@ unfolding corners_at Model.area
 mean_row-requires c =
     let a = c.args in
     let p = c.requires in
-    let v = p.6.0 in
-    let eu = c.next_start-upper.ensures (v + (2 * a.window.s + 1)) p.6.1 in
+    let v = p.4.0 in
+    let eu = c.next_start-upper.ensures (v + (2 * a.window.s + 1)) p.4.1 in
     let n = a.sums.now in
     let upper = c.next_start-upper.result in (
-      p.4,
-      rw (tail_mid upper n, length-drop) (omega (arith, upper_fits a.w a.window v a.lower _ p.6.1 eu p.3)),
-      rw (tail_mid a.lower n, length-drop) (omega (arith, lower_fits a.w a.window v a.lower _ p.6.1 eu p.3)),
+      p.2,
+      rw (tail_mid upper n, length-drop) (omega (arith, upper_fits a.w a.window v a.lower _ p.4.1 eu p.1)),
+      rw (tail_mid a.lower n, length-drop) (omega (arith, lower_fits a.w a.window v a.lower _ p.4.1 eu p.1)),
       rw c.area-n.ensures (omega arith),
-      rw c.area-n.ensures (area-le a.window.r a.window.s 15 15 p.1 p.2),
-      rw c.area-n.ensures p.5,
-      λ u k. rw (c.area-n.ensures, tail_mid upper n, tail_mid a.lower n, upper_edge a.w a.window v a.lower upper p.6.1 eu, p.6.1) (p.6.2 u k),
+      rw c.area-n.ensures (area-le a.window.r a.window.s 15 15 a.window.near.0 a.window.near.1),
+      rw c.area-n.ensures p.3,
+      λ u k. rw (c.area-n.ensures, tail_mid upper n, tail_mid a.lower n, upper_edge a.w a.window v a.lower upper p.4.1 eu, p.4.1) (p.4.2 u k),
     )
 
 pub returns : goal.returns
