@@ -3,7 +3,7 @@ use Prim.Native.Nat.{ℕ, suc, ◌+◌, ◌-◌, ◌*◌, ◌≤◌, ◌<◌}
 use native.Mathlib.Nat.{sub-zero}
 use native.Mathlib.Omega.{arith}
 use mathlib.Core.Path.{◌≡◌}
-use mathlib.Core.List.{List, [], ◌∷◌, ◌++◌}
+use mathlib.Core.List.{List, [], ◌∷◌}
 use lib.ListN.{length, drop, length-drop}
 use lib.Seq.{drop-drop}
 use borrow.Author.Tests.{leb-true}
@@ -13,6 +13,26 @@ use Rattle.refusals.proofs.Passed.{AllPass, all_pass, all_append, passed_all, be
 use Rattle.recipe_bytes.specs.Bytes.{at, there}
 use Rattle.recipe_stages.specs.StageBytes.{stage_tests, stage_length, stage_of}
 use Rattle.recipe.specs.Recipe.{stages_tests, stages_of, recipe_tests}
+
+-- `rest` is the bytes of the stages that are left, k of S being done
+module _ (S k : ℕ) (rest : List ℕ) where
+  module _ (h : k < S) where
+    split : S - k ≡ suc (S - (k + 1))
+    split = omega (arith, h)
+
+    -- the next stage is one that passes, and so do those behind it
+    pub rest_passes : AllPass (stages_tests (S - k) rest) → (verdict (stage_tests rest) ≡ Ok tt) × AllPass (stages_tests (S - (k + 1)) (drop (stage_length rest) rest))
+    unfolding stages_tests
+    rest_passes p = let q = all_append (stage_tests rest) _ (rw split at p) in (passed_all _ q.0, q.1)
+
+    pub rest_stages : stages_of (S - k) rest ≡ stage_of rest ∷ stages_of (S - (k + 1)) (drop (stage_length rest) rest)
+    unfolding stages_of
+    rest_stages = rw split
+
+  -- all are done
+  pub rest_none : S ≤ k → stages_of (S - k) rest ≡ []
+  unfolding stages_of
+  rest_none h = let e : S - k ≡ 0 = omega (arith, h) in rw e
 
 -- the stages that are left are accepted too
 pub record Walk (b : List ℕ) (S k a : ℕ) : Type 0 where
@@ -32,20 +52,13 @@ module _ (b : List ℕ) where
       (l, record { few = c.1; done = omega arith; inside = l; near = omega arith; left = rw sub-zero g.1.1 })
 
   module _ {S k a : ℕ} (w : Walk b S k a) (h : k < S) where
-    split : S - k ≡ suc (S - (k + 1))
-    split = omega (arith, h)
-
-    both : AllPass (stage_tests (drop a b) ++ stages_tests (S - (k + 1)) (drop (stage_length (drop a b)) (drop a b)))
-    unfolding stages_tests
-    both = rw split at w.left
-
     -- its place is a number that the code can hold
     pub walk_near : a ≤ 65537
     walk_near = omega (arith, w.near, w.few, h)
 
     -- the next is one that passes
     pub walk_tests : verdict (stage_tests (drop a b)) ≡ Ok tt
-    walk_tests = passed_all _ (all_append (stage_tests (drop a b)) _ both).0
+    walk_tests = (rest_passes S k (drop a b) h w.left).0
 
     pub walk_more : (n : ℕ) → n ≡ stage_length (drop a b) → n ≤ length (drop a b) → n ≤ 8195 → Walk b S (k + 1) (a + n)
     walk_more n e l m = record {
@@ -53,14 +66,12 @@ module _ (b : List ℕ) where
       done = omega (arith, h);
       inside = omega (arith, l, length-drop a b, w.inside);
       near = omega (arith, m, w.near);
-      left = rw (e, ← drop-drop (stage_length (drop a b)) a b) (all_append (stage_tests (drop a b)) _ both).1;
+      left = rw (e, ← drop-drop (stage_length (drop a b)) a b) (rest_passes S k (drop a b) h w.left).1;
     }
 
     pub walk_stages : (n : ℕ) → n ≡ stage_length (drop a b) → stages_of (S - k) (drop a b) ≡ stage_of (drop a b) ∷ stages_of (S - (k + 1)) (drop (a + n) b)
-    unfolding stages_of
-    walk_stages n e = rw (split, e, drop-drop (stage_length (drop a b)) a b)
+    walk_stages n e = rw (rest_stages S k (drop a b) h, e, drop-drop (stage_length (drop a b)) a b)
 
 -- all are done
 pub walk_end : (b : List ℕ) (S k a : ℕ) → S ≤ k → stages_of (S - k) (drop a b) ≡ []
-unfolding stages_of
-walk_end b S k a h = let e : S - k ≡ 0 = omega (arith, h) in rw e
+walk_end b S k a h = rest_none S k (drop a b) h

@@ -4,7 +4,7 @@ use native.Mathlib.Omega.{arith}
 use mathlib.Core.Path.{sym, ◌∙◌}
 use Rattle.lists.proofs.Part.{tail_mid}
 use Rattle.recipe.specs.Recipe.{recipe_stages}
-use Rattle.room.proofs.Rest.{rest_first, rest_passes, rest_stages, rest_none}
+use Rattle.room.proofs.Rest.{rest_first, next_passes, next_rest, next_stages, rest_done}
 use Rattle.room.proofs.NeedLaws.{need_more, need_none}
 use Rattle.room.proofs.sum_need.Goals as goal
 
@@ -24,15 +24,15 @@ pub loop-init : goal.loop-init
 unfolding recipe_stages
 loop-init c =
     let b = c.args.bytes.now in
-    record { accepted = rw (sub-zero, tail_mid 1 b) (rest_first b c.requires.1).1; most = rw (sub-zero, tail_mid 1 b) (omega arith) }
+    record { left = rw (tail_mid 1 b) (rest_first b c.requires.1).1; most = rw (sub-zero, tail_mid 1 b) (omega arith) }
 
 pub read_stage-stage-requires : goal.read_stage-stage-requires
 read_stage-stage-requires c =
-    (rest_passes _ _ _ c.loop-test.true c.loop.invariant.accepted).0
+    next_passes c.loop.invariant.left c.loop-test.true
 
 pub stage_length-requires : goal.stage_length-requires
 stage_length-requires c =
-    (rest_passes _ _ _ c.loop-test.true c.loop.invariant.accepted).0
+    next_passes c.loop.invariant.left c.loop-test.true
 
 pub loop-preserved : goal.loop-preserved
 loop-preserved c =
@@ -41,11 +41,11 @@ loop-preserved c =
     let t = c.loop-test.true in
     let n = c.stage_length.ensures in
     record {
-      accepted = rw (tail_mid c.stage_length.result b, n.0) (rest_passes _ _ b t L.invariant.accepted).1;
-      most = L.invariant.most ∙ rw (rest_stages _ _ b t, tail_mid c.stage_length.result b, n.0, c.max-need.ensures) (need_more c.args.w _ _ L.need _ (c.work_sums.ensures _ c.read_stage-stage.ensures));
+      left = rw (tail_mid c.stage_length.result b) (next_rest L.invariant.left t c.stage_length.result n.0 n.1 n.2);
+      most = L.invariant.most ∙ rw (next_stages L.invariant.left t, tail_mid c.stage_length.result b, n.0, c.max-need.ensures) (need_more c.args.w _ _ L.need _ (c.work_sums.ensures _ c.read_stage-stage.ensures));
     }
 
 pub returns : goal.returns
 returns c =
     let L = c.loop in
-    sym (L.invariant.most ∙ rw (rest_none _ L.counter L.rest.now c.loop-test.false) (need_none _ _))
+    sym (L.invariant.most ∙ rw (rest_done L.invariant.left c.loop-test.false) (need_none _ _))

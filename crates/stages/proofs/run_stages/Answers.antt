@@ -5,7 +5,7 @@ use native.Mathlib.Omega.{arith}
 use mathlib.Core.Path.{refl, sym, ◌∙◌}
 use Rattle.lists.proofs.Part.{tail_mid}
 use Rattle.recipe.specs.Recipe.{recipe_stages}
-use Rattle.room.proofs.Rest.{rest_first, rest_passes, rest_stages, rest_none}
+use Rattle.room.proofs.Rest.{rest_first, next_passes, next_rest, next_stages, rest_done}
 use Rattle.stages.proofs.ChainLaws.{chain_none, chain_more, first_fits, rest_fit}
 use Rattle.stages.proofs.run_stages.Goals as goal
 
@@ -26,7 +26,7 @@ unfolding recipe_stages
 loop-init c =
     let b = c.args.bytes.now in
     record {
-      accepted = rw (sub-zero, tail_mid 1 b) (rest_first b c.requires.accepted).1;
+      left = rw (tail_mid 1 b) (rest_first b c.requires.accepted).1;
       enough-sums = rw (sub-zero, tail_mid 1 b) c.requires.enough-sums;
       done = rw (sub-zero, tail_mid 1 b);
       work-length = refl;
@@ -35,7 +35,7 @@ loop-init c =
 
 pub read_stage-stage-requires : goal.read_stage-stage-requires
 read_stage-stage-requires c =
-    (rest_passes _ _ _ c.loop-test.true c.loop.invariant.accepted).0
+    next_passes c.loop.invariant.left c.loop-test.true
 
 pub run_stage-requires : goal.run_stage-requires
 run_stage-requires c =
@@ -48,12 +48,12 @@ run_stage-requires c =
       p.height.1,
       rw (mul_comm c.args.h c.args.w) (omega (arith, I.work-length, p.enough-work)),
       rw (mul_comm (c.args.h + 30) c.args.w) (omega (arith, I.rows-length, p.enough-rows)),
-      (_, c.read_stage-stage.ensures, first_fits _ _ _ (rw (rest_stages _ _ L.rest.now c.loop-test.true) at I.enough-sums)),
+      (_, c.read_stage-stage.ensures, first_fits _ _ _ (rw (next_stages I.left c.loop-test.true) at I.enough-sums)),
     )
 
 pub stage_length-requires : goal.stage_length-requires
 stage_length-requires c =
-    (rest_passes _ _ _ c.loop-test.true c.loop.invariant.accepted).0
+    next_passes c.loop.invariant.left c.loop-test.true
 
 pub loop-preserved : goal.loop-preserved
 loop-preserved c =
@@ -63,9 +63,9 @@ loop-preserved c =
     let t = c.loop-test.true in
     let n = c.stage_length.ensures in
     let m = tail_mid c.stage_length.result b in
-    let e = rest_stages _ _ b t in
+    let e = next_stages I.left t in
     record {
-      accepted = rw (m, n.0) (rest_passes _ _ b t I.accepted).1;
+      left = rw m (next_rest I.left t c.stage_length.result n.0 n.1 n.2);
       enough-sums = rw (m, n.0) (let f = rest_fit _ _ _ (rw e at I.enough-sums) in omega arith);
       done = I.done ∙ rw (e, m, n.0) (chain_more _ _ _ _ _ _ (c.run_stage.ensures _ c.read_stage-stage.ensures));
       work-length = omega arith;
@@ -75,4 +75,4 @@ loop-preserved c =
 pub returns : goal.returns
 returns c =
     let L = c.loop in
-    sym (L.invariant.done ∙ rw (rest_none _ L.counter L.rest.now c.loop-test.false) (chain_none _ _ _))
+    sym (L.invariant.done ∙ rw (rest_done L.invariant.left c.loop-test.false) (chain_none _ _ _))

@@ -2,15 +2,15 @@
 use Prim.Native.Nat.{◌*◌, ◌-◌, ◌≤◌}
 use mathlib.Core.Path.{◌≡◌}
 use lib.ListN.{length, take}
-use Rattle.refusals.proofs.Passed.{AllPass}
 use Rattle.model.specs.Stage.{written}
-use Rattle.recipe.specs.Recipe.{stages_tests, stages_of, recipe_stages}
+use Rattle.recipe.specs.Recipe.{stages_of, recipe_stages}
 use Rattle.table_sizes.specs.Needs.{sum_need}
+use Rattle.room.proofs.Rest.{Rest}
 use Rattle.stages.proofs.run_stages.Given as goal
 
 abbrev pub invariant-loop : goal.invariant-loop
 invariant-loop l = record {
-  accepted : AllPass (stages_tests (l.end - l.counter) l.rest);
+  left : Rest l.bytes l.end l.counter l.rest;
   enough-sums : sum_need l.w (stages_of (l.end - l.counter) l.rest) ≤ length l.sums;
   done : written l.w l.h (recipe_stages l.bytes) (take (l.h * l.w) l.initial.work) ≡ written l.w l.h (stages_of (l.end - l.counter) l.rest) (take (l.h * l.w) l.work);
   work-length : length l.work ≡ length l.initial.work;
