@@ -22,8 +22,8 @@ pub fn next_row(
     fours: &mut [u16],
     sums: &mut [u32],
 ) -> usize
-    requires { Framed frame plane.now × (k ≤ 8222) × (from ≡ row_start frame.width window k) × (frame.width + 34 ≤ length row.old) × (frame.width + 33 ≤ length fours.old) × (ring_size frame.width window ≤ length sums.old) × HeldTable frame window plane.now k sums.old }
-    ensures { (result ≡ row_start frame.width window (k + 1)) × HeldTable frame window plane.now (k + 1) sums.new }
+    requires { Framed frame plane.now × (k ≤ 8222) × (from ≡ row_start frame.width window.r window.s k) × (frame.width + 34 ≤ length row.old) × (frame.width + 33 ≤ length fours.old) × (ring_size frame.width window.r window.s ≤ length sums.old) × HeldTable frame window.r window.s plane.now k sums.old }
+    ensures { (result ≡ row_start frame.width window.r window.s (k + 1)) × HeldTable frame window.r window.s plane.now (k + 1) sums.new }
 {
     let w = frame.width;
     let first = 15 - window.r;
@@ -43,8 +43,8 @@ pub fn first_rows(
     fours: &mut [u16],
     sums: &mut [u32],
 ) -> usize
-    requires { Framed frame plane.now × (frame.width + 34 ≤ length row.old) × (frame.width + 33 ≤ length fours.old) × (ring_size frame.width window ≤ length sums.old) }
-    ensures { (result ≡ row_start frame.width window (2 * window.s)) × HeldTable frame window plane.now (2 * window.s) sums.new }
+    requires { Framed frame plane.now × (frame.width + 34 ≤ length row.old) × (frame.width + 33 ≤ length fours.old) × (ring_size frame.width window.r window.s ≤ length sums.old) }
+    ensures { (result ≡ row_start frame.width window.r window.s (2 * window.s)) × HeldTable frame window.r window.s plane.now (2 * window.s) sums.new }
 {
     let w = frame.width;
     let s = window.s;

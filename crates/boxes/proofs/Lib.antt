@@ -1,2 +1,3 @@
 pub mod FullTable
 pub mod Windows
+pub mod Radii

@@ -14,7 +14,6 @@ use Rattle.model_laws.proofs.Window.{length-window, pairs_window, sum-le, area-l
 use Rattle.model_laws.proofs.Chain.{around_both}
 use Rattle.model.specs.Plane.{plane_of}
 use Rattle.model.specs.Sound.{Bytes}
-use Rattle.stage_values.specs.declared.Window.{Window}
 use Rattle.stage_values.specs.Stands.{border_is}
 use Rattle.frame.specs.declared.Frame.{Frame}
 use Rattle.frame.specs.Framed.{neighbours}
@@ -28,20 +27,20 @@ use Rattle.boxes.proofs.FullTable.{Row, upper_held, lower_held}
 use Rattle.area_tables.proofs.Sums.{window-total}
 use Rattle.mean_rows.proofs.Corners.{difference_is_sum}
 
-module _ (f : Frame) (w : Window) (samples : List ℕ) where
+module _ (f : Frame) (r s : ℕ) (samples : List ℕ) (hr : r ≤ 15) (hs : s ≤ 15) where
   -- the window of column u, row v, in the extended frame
-  window-extended : (u v : ℕ) → window w.r w.s (neighbours f samples u v) ≡ raster (λ i j. extended f w samples (u + i) (v + j)) (2 * w.r + 1) (2 * w.s + 1)
+  window-extended : (u v : ℕ) → window r s (neighbours f samples u v) ≡ raster (λ i j. extended f r s samples (u + i) (v + j)) (2 * r + 1) (2 * s + 1)
   unfolding extended
   window-extended u v =
-      window-padded f samples w.r w.s u v w.near.0 w.near.1
-      ∙ raster_ext _ _ (2 * w.r + 1) (2 * w.s + 1) (λ i j _ _. rw (add_assoc (15 - w.r) u i, add_assoc (15 - w.s) v j))
+      window-padded f samples r s u v hr hs
+      ∙ raster_ext _ _ (2 * r + 1) (2 * s + 1) (λ i j _ _. rw (add_assoc (15 - r) u i, add_assoc (15 - s) v j))
 
   -- the sum of the first x columns and y rows
   abbrev all : ℕ → ℕ → ℕ
-  all x y = sum (raster (extended f w samples) x y)
+  all x y = sum (raster (extended f r s samples) x y)
 
-  window-corners : (u v : ℕ) → sum (window w.r w.s (neighbours f samples u v)) + all (u + (2 * w.r + 1)) v + all u (v + (2 * w.s + 1)) ≡ all (u + (2 * w.r + 1)) (v + (2 * w.s + 1)) + all u v
-  window-corners u v = omega (arith, ap sum (window-extended u v), window-total (extended f w samples) u v (2 * w.r + 1) (2 * w.s + 1))
+  window-corners : (u v : ℕ) → sum (window r s (neighbours f samples u v)) + all (u + (2 * r + 1)) v + all u (v + (2 * s + 1)) ≡ all (u + (2 * r + 1)) (v + (2 * s + 1)) + all u v
+  window-corners u v = omega (arith, ap sum (window-extended u v), window-total (extended f r s samples) u v (2 * r + 1) (2 * s + 1))
 
   -- of bytes
   module _ (hb : f.value ≤ 255) (hf : Bytes samples) where
@@ -49,37 +48,37 @@ module _ (f : Frame) (w : Window) (samples : List ℕ) where
     unfolding plane_of
     plane_le u v = hf (v * f.width + u)
 
-    pub window-sum-le : (u v : ℕ) → sum (window w.r w.s (neighbours f samples u v)) ≤ 255 * area w.r w.s
+    pub window-sum-le : (u v : ℕ) → sum (window r s (neighbours f samples u v)) ≤ 255 * area r s
     window-sum-le u v =
         let near = neighbours f samples u v in
-        omega (arith, sum-le (pairs_window w.r w.s near near (around_both (λ y x. y ≤ 255) (border_is f.border) f.value f.value f.width f.height (plane_of f.width samples) (plane_of f.width samples) hb plane_le u v)), ap (λ (n : ℕ). n * 255) (length-window w.r w.s near))
+        omega (arith, sum-le (pairs_window r s near near (around_both (λ y x. y ≤ 255) (border_is f.border) f.value f.value f.width f.height (plane_of f.width samples) (plane_of f.width samples) hb plane_le u v)), ap (λ (n : ℕ). n * 255) (length-window r s near))
 
     -- so it is below 2^32
-    window_sum_small : (u v : ℕ) → sum (window w.r w.s (neighbours f samples u v)) < 2 ^ 32
+    window_sum_small : (u v : ℕ) → sum (window r s (neighbours f samples u v)) < 2 ^ 32
     unfolding area
-    window_sum_small u v = omega (arith, window-sum-le u v, area-le w.r w.s 15 15 w.near.0 w.near.1)
+    window_sum_small u v = omega (arith, window-sum-le u v, area-le r s 15 15 hr hs)
 
     -- the difference of a window's four corners is its sum, for two rows of the table wherever they lie
-    pub edges_sum : (upper lower : List ℕ) (u v : ℕ) → u < f.width → Row f w samples upper v → Row f w samples lower (v + (2 * w.s + 1)) → corners upper lower (2 * w.r + 1) u ≡ sum (window w.r w.s (neighbours f samples u v))
+    pub edges_sum : (upper lower : List ℕ) (u v : ℕ) → u < f.width → Row f r s samples upper v → Row f r s samples lower (v + (2 * s + 1)) → corners upper lower (2 * r + 1) u ≡ sum (window r s (neighbours f samples u v))
     unfolding corners entry
     edges_sum upper lower u v hu above below =
-        let right : 2 * w.r + 1 + u ≡ u + (2 * w.r + 1) = omega arith in
-        let far : u + (2 * w.r + 1) < table_width f.width w.r = omega arith in
-        let near : u < table_width f.width w.r = omega arith in
-        rw (right, below (u + (2 * w.r + 1)) far, above u near, above (u + (2 * w.r + 1)) far, below u near)
-        (difference_is_sum (sum (window w.r w.s (neighbours f samples u v))) (all (u + (2 * w.r + 1)) (v + (2 * w.s + 1))) (all (u + (2 * w.r + 1)) v) (all u (v + (2 * w.s + 1))) (all u v)
+        let right : 2 * r + 1 + u ≡ u + (2 * r + 1) = omega arith in
+        let far : u + (2 * r + 1) < table_width f.width r = omega arith in
+        let near : u < table_width f.width r = omega arith in
+        rw (right, below (u + (2 * r + 1)) far, above u near, above (u + (2 * r + 1)) far, below u near)
+        (difference_is_sum (sum (window r s (neighbours f samples u v))) (all (u + (2 * r + 1)) (v + (2 * s + 1))) (all (u + (2 * r + 1)) v) (all u (v + (2 * s + 1))) (all u v)
         (window_sum_small u v) (window-corners u v))
 
-    module _ (sums : List ℕ) (v : ℕ) (held : HeldTable f w samples (v + (2 * w.s + 1)) sums) where
+    module _ (sums : List ℕ) (v : ℕ) (held : HeldTable f r s samples (v + (2 * s + 1)) sums) where
       -- so is that of the rows that are held, once the lower edge of row v's windows is among them
-      pub held_sum_lem : (u : ℕ) → u < f.width → corners_at sums f.width w u v ≡ sum (window w.r w.s (neighbours f samples u v))
+      pub held_sum_lem : (u : ℕ) → u < f.width → corners_at sums f.width r s u v ≡ sum (window r s (neighbours f samples u v))
       unfolding corners_at
-      held_sum_lem u hu = edges_sum _ _ u v hu (upper_held f w samples sums v held) (lower_held f w samples sums v held)
+      held_sum_lem u hu = edges_sum _ _ u v hu (upper_held f r s samples sums v held) (lower_held f r s samples sums v held)
 
-      pub held_le : (u : ℕ) → u < f.width → corners_at sums f.width w u v ≤ 255 * area w.r w.s
+      pub held_le : (u : ℕ) → u < f.width → corners_at sums f.width r s u v ≤ 255 * area r s
       held_le u hu = rw (held_sum_lem u hu) (window-sum-le u v)
 
       -- and the means are the results of row v
-      pub row_means : tabulate (λ u. (2 * corners_at sums f.width w u v + area w.r w.s) / (2 * area w.r w.s)) f.width ≡ tabulate (λ u. box_result w.r w.s (neighbours f samples u v)) f.width
+      pub row_means : tabulate (λ u. (2 * corners_at sums f.width r s u v + area r s) / (2 * area r s)) f.width ≡ tabulate (λ u. box_result r s (neighbours f samples u v)) f.width
       unfolding box_result
       row_means = tabulate_ext _ _ f.width (λ u hu. rw (held_sum_lem u hu))

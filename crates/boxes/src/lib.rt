@@ -22,7 +22,7 @@ fn write_rows(
     sums: &mut [u32],
     dst: &mut [u8],
 )
-    requires { Framed frame plane.now × (frame.width + 34 ≤ length row.old) × (frame.width + 33 ≤ length fours.old) × (ring_size frame.width window ≤ length sums.old) × (last ≡ row_start frame.width window (2 * window.s)) × HeldTable frame window plane.now (2 * window.s) sums.old × (length dst.old ≡ frame.height * frame.width) }
+    requires { Framed frame plane.now × (frame.width + 34 ≤ length row.old) × (frame.width + 33 ≤ length fours.old) × (ring_size frame.width window.r window.s ≤ length sums.old) × (last ≡ row_start frame.width window.r window.s (2 * window.s)) × HeldTable frame window.r window.s plane.now (2 * window.s) sums.old × (length dst.old ≡ frame.height * frame.width) }
     ensures { dst.new ≡ worked frame (box_result window.r window.s) plane.now }
 {
     let w = frame.width;
@@ -37,7 +37,7 @@ fn write_rows(
 
 // A box stage on the plane at the front of `work`. The samples before are copied behind it first.
 pub fn box_stage(frame: Frame, window: Window, work: &mut [u8], sums: &mut [u32])
-    requires { Framed frame (take (frame.height * frame.width) work.old) × (2 * (frame.height * frame.width) ≤ length work.old) × (ring_size frame.width window ≤ length sums.old) }
+    requires { Framed frame (take (frame.height * frame.width) work.old) × (2 * (frame.height * frame.width) ≤ length work.old) × (ring_size frame.width window.r window.s ≤ length sums.old) }
     ensures { take (frame.height * frame.width) work.new ≡ worked frame (box_result window.r window.s) (take (frame.height * frame.width) work.old) }
 {
     let n = frame.height * frame.width;

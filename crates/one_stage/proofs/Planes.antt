@@ -59,7 +59,7 @@ module _ (w h : ℕ) (s : Stage) where
       box_plane = rw (box_does, k.border, k.value)
 
       -- its rows of sums fit
-      pub box-room : {n : ℕ} → work_sums w t.work ≤ n → ring_size w x ≤ n
+      pub box-room : {n : ℕ} → work_sums w t.work ≤ n → ring_size w x.r x.s ≤ n
       unfolding work_sums
       box-room l = rw mul_comm (rw box_does at l)
 

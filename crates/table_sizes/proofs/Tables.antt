@@ -17,7 +17,7 @@ module _ (w : ℕ) (s : Stage) (t : Model.Stage) (k : Stands s t) where
   unfolding work_sums
   weighted_sums e = let d : Does Weighted s t.work = rw e at k.work in rw d.2
 
-  pub box_sums : {x : Window} → s.work ≡ Boxed x → ring_size w x ≡ work_sums w t.work
+  pub box_sums : {x : Window} → s.work ≡ Boxed x → ring_size w x.r x.s ≡ work_sums w t.work
   unfolding work_sums
   box_sums {x} e = let d : Does (Boxed x) s t.work = rw e at k.work in rw d (omega arith)
 
@@ -30,5 +30,5 @@ module _ (w : ℕ) (s : Stage) (t : Model.Stage) (k : Stands s t) where
   outline_sums e = let d : Does Outlined s t.work = rw e at k.work in rw d
 
 -- a ring is small
-pub ring_small : (w : ℕ) (x : Window) → w ≤ 8192 → ring_size w x ≤ 263136
-ring_small w x a = mul-le-mul {n₂ = 32} {m₂ = 8223} (omega (arith, x.near.1)) (omega (arith, a, x.near.0))
+pub ring_small : (w r s : ℕ) → w ≤ 8192 → r ≤ 15 → s ≤ 15 → ring_size w r s ≤ 263136
+ring_small w r s a b c = mul-le-mul {n₂ = 32} {m₂ = 8223} (omega (arith, c)) (omega (arith, a, b))

@@ -20,15 +20,15 @@ pub fn table_width(w: usize, r: usize) -> usize
 // The entries of a whole ring of rows.
 fn ring_size(w: usize, window: Window) -> usize
     requires { w ≤ 8192 }
-    ensures { result ≡ ring_size w window }
+    ensures { result ≡ ring_size w window.r window.s }
 {
     (2 * window.s + 2) * table_width(w, window.r)
 }
 
 // Where the row after that at `at` lies: behind it, or at the front where the ring ends.
 pub fn next_start(w: usize, window: Window, at: usize) -> usize
-    requires { (w ≤ 8192) × ((y : ℕ) × (at ≡ row_start w window y)) }
-    ensures { (y : ℕ) → at ≡ row_start w window y → result ≡ row_start w window (y + 1) }
+    requires { (w ≤ 8192) × ((y : ℕ) × (at ≡ row_start w window.r window.s y)) }
+    ensures { (y : ℕ) → at ≡ row_start w window.r window.s y → result ≡ row_start w window.r window.s (y + 1) }
 {
     let next = at + table_width(w, window.r);
     if next < ring_size(w, window) { next } else { 0 }

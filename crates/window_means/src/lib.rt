@@ -20,8 +20,8 @@ pub fn area(window: Window) -> u32
 
 // A row of means, from the rows of sums that are held: the lower edge of its windows lies at `lower`, and their upper edge, the oldest row, after it.
 pub fn row_of_means(sums: &[u32], w: usize, window: Window, lower: usize, by: u32, dst: &mut [u8])
-    requires { (w ≤ 8192) × (ring_size w window ≤ length sums.now) × (w ≤ length dst.old) × (by ≡ reciprocal_of (Model.area window.r window.s)) × ((v : ℕ) × (lower ≡ row_start w window (v + (2 * window.s + 1))) × ((u : ℕ) → u < w → corners_at sums.now w window u v ≤ 255 * Model.area window.r window.s)) }
-    ensures { (v : ℕ) → lower ≡ row_start w window (v + (2 * window.s + 1)) → dst.new ≡ tabulate (λ u. nearest (corners_at sums.now w window u v) (Model.area window.r window.s)) w ++ drop w dst.old }
+    requires { (w ≤ 8192) × (ring_size w window.r window.s ≤ length sums.now) × (w ≤ length dst.old) × (by ≡ reciprocal_of (Model.area window.r window.s)) × ((v : ℕ) × (lower ≡ row_start w window.r window.s (v + (2 * window.s + 1))) × ((u : ℕ) → u < w → corners_at sums.now w window.r window.s u v ≤ 255 * Model.area window.r window.s)) }
+    ensures { (v : ℕ) → lower ≡ row_start w window.r window.s (v + (2 * window.s + 1)) → dst.new ≡ tabulate (λ u. nearest (corners_at sums.now w window.r window.s u v) (Model.area window.r window.s)) w ++ drop w dst.old }
 {
     let n = area(window);
     let across = 2 * window.r + 1;

@@ -13,5 +13,5 @@ pub loop-k-init : goal.loop-k-init
 loop-k-init c =
     let a = c.args in
     let n = table_width a.frame.width a.window.r in
-    let zeros = rw (c.table_width.ensures, length-take-le n a.sums.now (omega (arith, place_fits a.frame.width a.window 0 c.requires.3))) at (c.fill.ensures.after (λ y e. e)) in
-    (sym (first_place a.frame.width a.window), held_first a.frame a.window a.plane.now _ _ (ap (λ (t : List ℕ). t ++ drop c.table_width.result a.sums.now) zeros))
+    let zeros = rw (c.table_width.ensures, length-take-le n a.sums.now (omega (arith, place_fits a.frame.width a.window.r a.window.s 0 c.requires.3))) at (c.fill.ensures.after (λ y e. e)) in
+    (sym (first_place a.frame.width a.window.r a.window.s), held_first a.frame a.window.r a.window.s a.plane.now _ _ (ap (λ (t : List ℕ). t ++ drop c.table_width.result a.sums.now) zeros))

@@ -5,4 +5,4 @@ use Rattle.area_tables.specs.HeldTable.{HeldTable}
 use Rattle.area_tables.proofs.first_rows.Given as goal
 
 abbrev pub invariant-loop-k : goal.invariant-loop-k
-invariant-loop-k l = (l.at ≡ row_start l.frame.width l.window l.k) × HeldTable l.frame l.window l.plane l.k l.sums
+invariant-loop-k l = (l.at ≡ row_start l.frame.width l.window.r l.window.s l.k) × HeldTable l.frame l.window.r l.window.s l.plane l.k l.sums

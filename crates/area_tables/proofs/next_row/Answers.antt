@@ -12,15 +12,17 @@ add_row-requires c =
     let a = c.args in
     let p = c.requires in
     let w = a.frame.width in
+    let x = a.window in
     let row = c.padded_row.new.dst in
     rw (c.table_width-width.ensures, c.next_start-to.ensures a.k p.2, p.2)
-    (place_fits w a.window a.k p.5, place_fits w a.window (a.k + 1) p.5, next_apart w a.window a.k, rw (tail_mid (15 - a.window.r) row, length-drop) (omega (arith, a.window.near.0, p.3)), omega (arith, a.window.near.0, p.4))
+    (place_fits w x.r x.s a.k p.5, place_fits w x.r x.s (a.k + 1) p.5, next_apart w x.r x.s a.k, rw (tail_mid (15 - x.r) row, length-drop) (omega (arith, x.near.0, p.3)), omega (arith, x.near.0, p.4))
 
 pub returns : goal.returns
 unfolding stored
 returns c =
     let a = c.args in
     let p = c.requires in
+    let x = a.window in
     let to = c.next_start-to.ensures a.k p.2 in
     let row = c.padded_row.new.dst in
-    (to, held_more a.frame a.window a.plane.now row _ (length row - (15 - a.window.r)) a.k a.sums.now _ (omega (arith, a.window.near.0, p.3)) p.5 p.6 c.padded_row.ensures (rw (c.table_width-width.ensures, to, p.2) at c.add_row.ensures))
+    (to, held_more a.frame x.r x.s a.plane.now row _ (length row - (15 - x.r)) a.k a.sums.now _ x.near.0 (omega (arith, x.near.0, p.3)) p.5 p.6 c.padded_row.ensures (rw (c.table_width-width.ensures, to, p.2) at c.add_row.ensures))

@@ -39,7 +39,7 @@ row_of_means-requires c =
       search rules,
       rw (tail_mid (L.v * f.width) L.dst, length-drop) (omega (arith, row_fits L.v f.height f.width c.loop-v-test.true, L.auto.dst, p.6)),
       c.reciprocal-by.ensures ∙ rw c.area.ensures,
-      (L.v, made.0, held_le f w a.plane.now (omega (arith, c.well_formed)) (λ i. omega (arith, (c.type_inv.plane i).fits)) _ L.v made.1),
+      (L.v, made.0, held_le f w.r w.s a.plane.now w.near.0 w.near.1 (omega (arith, c.well_formed)) (λ i. omega (arith, (c.type_inv.plane i).fits)) _ L.v made.1),
     )
 
 pub loop-v-preserved : goal.loop-v-preserved
@@ -51,7 +51,7 @@ loop-v-preserved c =
     let down : 2 * w.s + L.v + 1 ≡ L.v + (2 * w.s + 1) = omega arith in
     let next : L.v + (2 * w.s + 1) ≡ 2 * w.s + (L.v + 1) = omega arith in
     let made = rw down at c.next_row-lower.ensures in
-    let means = row_means f w a.plane.now (omega (arith, c.well_formed)) (λ i. omega (arith, (c.type_inv.plane i).fits)) _ L.v made.1 in
+    let means = row_means f w.r w.s a.plane.now w.near.0 w.near.1 (omega (arith, c.well_formed)) (λ i. omega (arith, (c.type_inv.plane i).fits)) _ L.v made.1 in
     let row = c.row_of_means.ensures L.v made.0 ∙ ap (λ (l : List ℕ). l ++ drop f.width (take (length L.dst - L.v * f.width) (drop (L.v * f.width) L.dst))) means in
     (plane_more _ f.width a.dst.now c.requires.6 L.dst _ c.loop-v-test.true L.invariant.0 row, rw next at made.0, rw next at made.1)
 

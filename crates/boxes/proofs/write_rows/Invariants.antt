@@ -13,4 +13,4 @@ use Rattle.boxes.proofs.write_rows.Given as goal
 abbrev pub invariant-loop-v : goal.invariant-loop-v
 invariant-loop-v l =
     (l.dst ≡ raster (λ i j. box_result l.window.r l.window.s (neighbours l.frame l.plane i j)) l.frame.width l.v ++ drop (l.v * l.frame.width) l.initial.dst)
-    × (l.lower ≡ row_start l.frame.width l.window (2 * l.window.s + l.v)) × HeldTable l.frame l.window l.plane (2 * l.window.s + l.v) l.sums
+    × (l.lower ≡ row_start l.frame.width l.window.r l.window.s (2 * l.window.s + l.v)) × HeldTable l.frame l.window.r l.window.s l.plane (2 * l.window.s + l.v) l.sums

@@ -6,7 +6,8 @@ use Rattle.table_sizes.proofs.ring_size.Goals as goal
 
 pub overflow_mul-result-2 : goal.overflow_mul-result-2
 overflow_mul-result-2 c =
-    record { fits = rw c.table_width.ensures (omega (arith, ring_small c.args.w c.args.window c.requires)) }
+    let x = c.args.window in
+    record { fits = rw c.table_width.ensures (omega (arith, ring_small c.args.w x.r x.s c.requires x.near.0 x.near.1)) }
 
 pub returns : goal.returns
 returns c =

@@ -21,7 +21,7 @@ slice_bounds-mean_row-count c =
     let p = c.requires in
     let v = p.4.0 in
     let eu = c.next_start-upper.ensures (v + (2 * a.window.s + 1)) p.4.1 in
-    omega (arith, upper_fits a.w a.window v a.lower _ p.4.1 eu p.1)
+    omega (arith, upper_fits a.w a.window.r a.window.s v a.lower _ p.4.1 eu p.1)
 
 pub offset_bounds-sums-upper : goal.offset_bounds-sums-upper
 offset_bounds-sums-upper c =
@@ -29,7 +29,7 @@ offset_bounds-sums-upper c =
     let p = c.requires in
     let v = p.4.0 in
     let eu = c.next_start-upper.ensures (v + (2 * a.window.s + 1)) p.4.1 in
-    record { fits = omega (arith, upper_fits a.w a.window v a.lower _ p.4.1 eu p.1) }
+    record { fits = omega (arith, upper_fits a.w a.window.r a.window.s v a.lower _ p.4.1 eu p.1) }
 
 pub slice_bounds-mean_row-start : goal.slice_bounds-mean_row-start
 slice_bounds-mean_row-start c = slice_bounds-mean_row-count c
@@ -41,7 +41,7 @@ slice_bounds-mean_row-count-2 c =
     let p = c.requires in
     let v = p.4.0 in
     let eu = c.next_start-upper.ensures (v + (2 * a.window.s + 1)) p.4.1 in
-    omega (arith, lower_fits a.w a.window v a.lower _ p.4.1 eu p.1)
+    omega (arith, lower_fits a.w a.window.r a.window.s v a.lower _ p.4.1 eu p.1)
 
 pub slice_bounds-mean_row-start-2 : goal.slice_bounds-mean_row-start-2
 slice_bounds-mean_row-start-2 c = slice_bounds-mean_row-count-2 c
@@ -56,12 +56,12 @@ mean_row-requires c =
     let n = a.sums.now in
     let upper = c.next_start-upper.result in (
       p.2,
-      rw (tail_mid upper n, length-drop) (omega (arith, upper_fits a.w a.window v a.lower _ p.4.1 eu p.1)),
-      rw (tail_mid a.lower n, length-drop) (omega (arith, lower_fits a.w a.window v a.lower _ p.4.1 eu p.1)),
+      rw (tail_mid upper n, length-drop) (omega (arith, upper_fits a.w a.window.r a.window.s v a.lower _ p.4.1 eu p.1)),
+      rw (tail_mid a.lower n, length-drop) (omega (arith, lower_fits a.w a.window.r a.window.s v a.lower _ p.4.1 eu p.1)),
       rw c.area-n.ensures (omega arith),
       rw c.area-n.ensures (area-le a.window.r a.window.s 15 15 a.window.near.0 a.window.near.1),
       rw c.area-n.ensures p.3,
-      λ u k. rw (c.area-n.ensures, tail_mid upper n, tail_mid a.lower n, upper_edge a.w a.window v a.lower upper p.4.1 eu, p.4.1) (p.4.2 u k),
+      λ u k. rw (c.area-n.ensures, tail_mid upper n, tail_mid a.lower n, upper_edge a.w a.window.r a.window.s v a.lower upper p.4.1 eu, p.4.1) (p.4.2 u k),
     )
 
 pub returns : goal.returns
@@ -70,4 +70,4 @@ returns c =
     let a = c.args in
     let n = a.sums.now in
     let upper = c.next_start-upper.result in
-    λ v e. rw (c.area-n.ensures, tail_mid upper n, tail_mid a.lower n, upper_edge a.w a.window v a.lower upper e (c.next_start-upper.ensures (v + (2 * a.window.s + 1)) e), e) at c.mean_row.ensures
+    λ v e. rw (c.area-n.ensures, tail_mid upper n, tail_mid a.lower n, upper_edge a.w a.window.r a.window.s v a.lower upper e (c.next_start-upper.ensures (v + (2 * a.window.s + 1)) e), e) at c.mean_row.ensures
