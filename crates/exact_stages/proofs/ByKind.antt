@@ -24,7 +24,7 @@ use Rattle.recipe_kernels.specs.Kernels.{kernel_on, weighted_tests}
 use Rattle.recipe_stages.specs.StageBytes.{stage_tests, stage_of}
 use Rattle.near_rows.specs.declared.Channel.{Channel}
 use Rattle.near_rows.specs.Places.{channel_near}
-use Rattle.whole_taps.specs.declared.held.Taps.{Taps}
+use Rattle.whole_taps.specs.declared.Taps.{Taps}
 use Rattle.whole_taps.specs.Whole.{kernel_is}
 use Rattle.verdict_answers.proofs.OneStage.{stage_tests_lem, stage_long}
 use Rattle.exact_stages.specs.Fits.{Fits, Sides}

@@ -14,12 +14,12 @@ ghost use Rattle.exact_stages.specs.Fits.{Fits, Sides};
 use frame::Frame;
 use near_rows::Channel;
 use stage_values::Work;
-use whole_taps::Taps;
+use whole_taps::WholeTaps;
 
 // The taps of an axis of ratios, 0 across and 1 down, after the stage's header bytes.
-fn taps_on(part: &[u8], axis: usize) -> Taps
+fn taps_on(part: &[u8], axis: usize) -> WholeTaps
     requires { (axis ≤ 1) × (verdict (weighted_tests false part.now) ≡ Ok tt) }
-    ensures { kernel_is result ≡ kernel_on false axis part.now }
+    ensures { kernel_is result.taps ≡ kernel_on false axis part.now }
 {
     whole_taps::taps_of(recipe_kernels::kernel_on(part, false, axis))
 }

@@ -19,8 +19,9 @@ use Rattle.tap_sums.specs.HeldSums.{held_sum}
 use Rattle.tap_sums.proofs.SumLaws.{held_size_lem, held_ext}
 use Rattle.tap_sums.proofs.PartialSums.{partial}
 use Rattle.tap_sums.proofs.TapLists.{held_list}
-use Rattle.whole_taps.specs.declared.held.Taps.{Taps}
-use Rattle.whole_taps.specs.Whole.{kernel_is}
+use Rattle.whole_taps.specs.declared.Taps.{Taps}
+use Rattle.whole_taps.specs.Whole.{kernel_is, Whole}
+use Rattle.whole_taps.proofs.Kernels.{beyond}
 use Rattle.exact_weights.specs.Sums.{tap_sum}
 use Rattle.exact_weights.proofs.Exchange.{exchanged}
 
@@ -32,17 +33,17 @@ all_taps offsets weights g n u = +ℤ_idr (held_sum offsets weights n (g u))
 -- ---- sizes
 
 -- the sizes of all numerators of an axis together
-pub size_small : (t : Taps) → held_size t.weights t.len ≤ 262140
-size_small t = omega (arith, t.gain, t.low)
+pub size_small : {t : Taps} → Whole t → held_size t.weights t.len ≤ 262140
+size_small w = omega (arith, w.gain, w.low)
 
-module _ (t : Taps) (g : ℕ → ℤ) (M : ℕ) (h : (o : ℕ) → nat_abs (g o) ≤ M) where
+module _ {t : Taps} (w : Whole t) (g : ℕ → ℤ) (M : ℕ) (h : (o : ℕ) → nat_abs (g o) ≤ M) where
   -- a sum is at most four divisors times what is summed
   pub sum-size : nat_abs (tap_sum t g) ≤ 4 * t.divisor * M
-  sum-size = le_trans (held_size_lem t.offsets t.weights g M h t.len) (mul-le-mul {m₁ = M} {m₂ = M} t.gain (omega arith))
+  sum-size = le_trans (held_size_lem t.offsets t.weights g M h t.len) (mul-le-mul {m₁ = M} {m₂ = M} w.gain (omega arith))
 
 -- the sums down of samples
-pub down_small : (t : Taps) (g : ℕ → ℕ) → ((o : ℕ) → g o ≤ 255) → nat_abs (tap_sum t (λ o. pos (g o))) ≤ 2 ^ 27
-down_small t g h = omega (arith, sum-size t (λ o. pos (g o)) 255 h, t.low)
+pub down_small : {t : Taps} → Whole t → (g : ℕ → ℕ) → ((o : ℕ) → g o ≤ 255) → nat_abs (tap_sum t (λ o. pos (g o))) ≤ 2 ^ 27
+down_small {t} w g h = omega (arith, sum-size w (λ o. pos (g o)) 255 h, w.low)
 
 -- ---- the model's sums
 
@@ -62,12 +63,18 @@ module _ (across down : Taps) (f : Frame) (samples : List ℕ) (u v : ℕ) where
       ∙ tap_model down (λ j. weighted_sum (kernel_is across).taps (λ i. pos (neighbours f samples u v i j)))
 
   -- THE NUMERATORS OF RATIOS FIT: no size is above 16 · 255 · 2^32, which is below 2^63
-  pub numerator-size : ((x y : ℕ) → padded f samples x y ≤ 255)
+  pub numerator-size : Whole across → Whole down → ((x y : ℕ) → padded f samples x y ≤ 255)
       → nat_abs (numerator (weighted (kernel_is across) (kernel_is down)) (neighbours f samples u v)) ≤ 16 * 255 * 2 ^ 32
-  numerator-size h =
+  numerator-size a b h =
       rw (sym numerator-is)
       (omega (
         arith,
-        sum-size across (λ o. tap_sum down (λ p. pos (padded f samples (u + o) (v + p)))) (4 * down.divisor * 255) (λ o. sum-size down (λ p. pos (padded f samples (u + o) (v + p))) 255 (λ p. h (u + o) (v + p))),
-        mul-le-mul {n₂ = 65535} {m₂ = 65535} across.low down.low,
+        sum-size a (λ o. tap_sum down (λ p. pos (padded f samples (u + o) (v + p)))) (4 * down.divisor * 255) (λ o. sum-size b (λ p. pos (padded f samples (u + o) (v + p))) 255 (λ p. h (u + o) (v + p))),
+        mul-le-mul {n₂ = 65535} {m₂ = 65535} a.low b.low,
       ))
+
+-- ANY TAPS, and not those of ratios alone
+pub any_taps : (o p : List ℕ) (a b : List ℤ) (f : Frame) (samples : List ℕ) (u v : ℕ)
+    → tap_sum (beyond o a) (λ i. tap_sum (beyond p b) (λ j. pos (padded f samples (u + i) (v + j))))
+    ≡ numerator (weighted (kernel_is (beyond o a)) (kernel_is (beyond p b))) (neighbours f samples u v)
+any_taps o p a b f samples u v = numerator-is (beyond o a) (beyond p b) f samples u v

@@ -14,38 +14,45 @@ ghost use Rattle.exact_weights.specs.Sums.{tap_sum};
 
 use frame::Frame;
 use near_rows::Channel;
-use whole_taps::Taps;
+use whole_taps::WholeTaps;
 
 // The sums down of row v, at every place of a padded row.
-fn sums_down(frame: Frame, plane: &[u8], down: Taps, v: usize, row: &mut [u8], sums: &mut [i32])
+fn sums_down(
+    frame: Frame,
+    plane: &[u8],
+    down: WholeTaps,
+    v: usize,
+    row: &mut [u8],
+    sums: &mut [i32],
+)
     requires { Framed frame plane.now × (v ≤ 8192) × (frame.width + 30 ≤ length row.old) × (frame.width + 30 ≤ length sums.old) }
-    ensures { sums.new ≡ tabulate (λ x. tap_sum down (λ o. pos (padded frame plane.now x (v + o)))) (frame.width + 30) ++ drop (frame.width + 30) sums.old }
+    ensures { sums.new ≡ tabulate (λ x. tap_sum down.taps (λ o. pos (padded frame plane.now x (v + o)))) (frame.width + 30) ++ drop (frame.width + 30) sums.old }
 {
     let n = frame.width + 30;
     row_sums::start_at(sums, n, 0);
-    for k in 0..down.len {
-        frame::padded_row(frame, plane, v + down.offsets[k] as usize, row);
-        row_sums::add_tap(sums, n, row, down.weights[k]);
+    for k in 0..down.taps.len {
+        frame::padded_row(frame, plane, v + down.taps.offsets[k] as usize, row);
+        row_sums::add_tap(sums, n, row, down.taps.weights[k]);
     }
 }
 
 // The sums across of a row of sums down.
-fn sums_across(sums: &[i32], across: Taps, w: usize, wide: &mut [i64])
+fn sums_across(sums: &[i32], across: WholeTaps, w: usize, wide: &mut [i64])
     requires { (w ≤ 8192) × (w + 30 ≤ length sums.now) × (w ≤ length wide.old) × ((x : ℕ) → nat_abs (get_or sums.now x (pos 0)) ≤ 2 ^ 27) }
-    ensures { wide.new ≡ tabulate (λ u. tap_sum across (λ o. get_or sums.now (u + o) (pos 0))) w ++ drop w wide.old }
+    ensures { wide.new ≡ tabulate (λ u. tap_sum across.taps (λ o. get_or sums.now (u + o) (pos 0))) w ++ drop w wide.old }
 {
     row_sums::start_at(wide, w, 0);
-    for k in 0..across.len {
-        let at = across.offsets[k] as usize;
-        row_sums::add_tap(wide, w, &sums[at..], across.weights[k]);
+    for k in 0..across.taps.len {
+        let at = across.taps.offsets[k] as usize;
+        row_sums::add_tap(wide, w, &sums[at..], across.taps.weights[k]);
     }
 }
 
 // The numerators of row v, not clamped.
 fn row_numerators(
     frame: Frame,
-    across: Taps,
-    down: Taps,
+    across: WholeTaps,
+    down: WholeTaps,
     plane: &[u8],
     v: usize,
     row: &mut [u8],
@@ -53,7 +60,7 @@ fn row_numerators(
     wide: &mut [i64],
 )
     requires { Framed frame plane.now × (v ≤ 8192) × (frame.width + 30 ≤ length row.old) × (frame.width + 30 ≤ length sums.old) × (frame.width ≤ length wide.old) }
-    ensures { (u : ℕ) → u < frame.width → get_or wide.new u (pos 0) ≡ numerator (weighted (kernel_is across) (kernel_is down)) (neighbours frame plane.now u v) }
+    ensures { (u : ℕ) → u < frame.width → get_or wide.new u (pos 0) ≡ numerator (weighted (kernel_is across.taps) (kernel_is down.taps)) (neighbours frame plane.now u v) }
 {
     let w = frame.width;
     let n = w + 30;
@@ -62,24 +69,24 @@ fn row_numerators(
 }
 
 // N: the divisors of both axes together.
-fn denominator(across: Taps, down: Taps) -> u64
-    ensures { (result ≡ across.divisor * down.divisor) × (result ≤ 2 ^ 32) }
+fn denominator(across: WholeTaps, down: WholeTaps) -> u64
+    ensures { (result ≡ across.taps.divisor * down.taps.divisor) × (result ≤ 2 ^ 32) }
 {
-    across.divisor * down.divisor
+    across.taps.divisor * down.taps.divisor
 }
 
 // Whether each sample of a channel of a received raster lies within c levels of the exact result of ratios on a plane.
 pub fn ratios_near(
     frame: Frame,
-    across: Taps,
-    down: Taps,
+    across: WholeTaps,
+    down: WholeTaps,
     plane: &[u8],
     received: &[u8],
     channel: Channel,
     c: u64,
 ) -> bool
     requires { Framed frame plane.now × Inside frame.width frame.height channel received.now × (c ≤ 255) }
-    ensures { result ≡ channel_near c (across.divisor * down.divisor) frame.width frame.height channel received.now (λ u v. numerator (weighted (kernel_is across) (kernel_is down)) (neighbours frame plane.now u v)) }
+    ensures { result ≡ channel_near c (across.taps.divisor * down.taps.divisor) frame.width frame.height channel received.now (λ u v. numerator (weighted (kernel_is across.taps) (kernel_is down.taps)) (neighbours frame plane.now u v)) }
 {
     let w = frame.width;
     let h = frame.height;

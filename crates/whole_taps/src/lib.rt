@@ -5,12 +5,25 @@ ghost use Rattle.std.specs.Prelude.{◌≡◌, ℕ, ◌≤◌, ◌<◌, length, 
 ghost use Rattle.lists.specs.Tabulate.{tabulate};
 ghost use Rattle.numerators.specs.Numerator.{numerator_of};
 ghost use Rattle.kernels.specs.Kernel.{kernel_of, Limits};
-ghost use Rattle.whole_taps.specs.Whole.{kernel_is};
+ghost use Rattle.whole_taps.specs.Whole.{kernel_is, Whole};
 
-mod held;
-
-pub use held::Taps;
 use kernels::Kernel;
+
+// Offsets 15 too large, numerators, and the divisor that all of them are over.
+#[derive(Clone, Copy)]
+pub struct Taps {
+    pub offsets: [u8; 31],
+    pub weights: [i32; 31],
+    pub len: usize,
+    pub divisor: u64,
+}
+
+// Taps of ratios: few, offsets within reach, a divisor of 16 bits, a gain of at most 4.
+#[derive(Clone, Copy)]
+pub struct WholeTaps {
+    pub taps: Taps,
+    ghost whole: { Whole taps },
+}
 
 // A numerator that is held 2^38 too large, as itself: it is brought to 2^18 too large first, which an i32 holds.
 fn numerator(value: u64) -> i32
@@ -33,16 +46,17 @@ fn numerators(values: &[u64], n: usize) -> [i32; 31]
 }
 
 // A kernel's taps.
-pub fn taps_of(k: Kernel) -> Taps
+pub fn taps_of(k: Kernel) -> WholeTaps
     requires { Limits k.divisor k.offsets k.values k.len × (k.divisor ≤ 65535) }
-    ensures { kernel_is result ≡ kernel_of k.divisor k.offsets k.values k.len }
+    ensures { kernel_is result.taps ≡ kernel_of k.divisor k.offsets k.values k.len }
 {
     let offsets = k.offsets;
     let weights = numerators(&k.values, k.len);
-    Taps {
+    let taps = Taps {
         offsets,
         weights,
         len: k.len,
         divisor: k.divisor,
-    }
+    };
+    WholeTaps { taps }
 }

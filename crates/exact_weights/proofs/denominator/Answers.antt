@@ -7,8 +7,8 @@ small h k = omega (arith, mul-le-mul {n₂ = 65535} {m₂ = 65535} h k)
 
 pub overflow_mul-result : goal.overflow_mul-result
 overflow_mul-result c =
-    record { fits = omega (arith, small c.args.across.low c.args.down.low) }
+    record { fits = omega (arith, small c.args.across.whole.low c.args.down.whole.low) }
 
 pub returns : goal.returns
 returns c =
-    (refl, small c.args.across.low c.args.down.low)
+    (refl, small c.args.across.whole.low c.args.down.whole.low)

@@ -11,7 +11,7 @@ use Rattle.exact_weights.proofs.ratios_near.Goals as goal
 
 pub loop-v-init : goal.loop-v-init
 loop-v-init c =
-    let a = c.args in (no_rows a.c c.denominator-n.result a.frame.width a.frame.height a.channel a.received.now (at a.frame a.across a.down a.plane.now), refl, refl, refl)
+    let a = c.args in (no_rows a.c c.denominator-n.result a.frame.width a.frame.height a.channel a.received.now (at a.frame a.across.taps a.down.taps a.plane.now), refl, refl, refl)
 
 pub slice_bounds-row_numerators-end : goal.slice_bounds-row_numerators-end
 slice_bounds-row_numerators-end c =
@@ -41,19 +41,19 @@ pub returns : goal.returns
 returns c =
     let a = c.args in
     let L = c.loop-v in
-    rw (← c.denominator-n.ensures.0) (all-rows-near a.c c.denominator-n.result a.frame.width a.frame.height a.channel a.received.now (at a.frame a.across a.down a.plane.now) L.v L.auto.v-end c.loop-v-test.false L.invariant.0)
+    rw (← c.denominator-n.ensures.0) (all-rows-near a.c c.denominator-n.result a.frame.width a.frame.height a.channel a.received.now (at a.frame a.across.taps a.down.taps a.plane.now) L.v L.auto.v-end c.loop-v-test.false L.invariant.0)
 
 pub returns-then-not-row_near : goal.returns-then-not-row_near
 returns-then-not-row_near c =
     let a = c.args in
     rw (← c.denominator-n.ensures.0)
-    (row-not-near a.c c.denominator-n.result a.frame.width a.frame.height a.channel a.received.now (at a.frame a.across a.down a.plane.now) c.loop-v.v (λ u. get_or c.row_numerators.new.wide u (pos 0)) _ c.row_numerators.ensures c.row_near.ensures c.loop-v-test.true (ap not c.if-not-row_near.true))
+    (row-not-near a.c c.denominator-n.result a.frame.width a.frame.height a.channel a.received.now (at a.frame a.across.taps a.down.taps a.plane.now) c.loop-v.v (λ u. get_or c.row_numerators.new.wide u (pos 0)) _ c.row_numerators.ensures c.row_near.ensures c.loop-v-test.true (ap not c.if-not-row_near.true))
 
 pub loop-v-preserved : goal.loop-v-preserved
 loop-v-preserved c =
     let a = c.args in
     let L = c.loop-v in (
-      one-row-more a.c c.denominator-n.result a.frame.width a.frame.height a.channel a.received.now (at a.frame a.across a.down a.plane.now) L.v (λ u. get_or c.row_numerators.new.wide u (pos 0)) _ c.row_numerators.ensures c.row_near.ensures L.invariant.0 (ap not c.if-not-row_near.false),
+      one-row-more a.c c.denominator-n.result a.frame.width a.frame.height a.channel a.received.now (at a.frame a.across.taps a.down.taps a.plane.now) L.v (λ u. get_or c.row_numerators.new.wide u (pos 0)) _ c.row_numerators.ensures c.row_near.ensures L.invariant.0 (ap not c.if-not-row_near.false),
       search rules,
       search rules,
       search rules,

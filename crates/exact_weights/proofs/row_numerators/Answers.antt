@@ -44,7 +44,7 @@ sums_across-requires c =
       p.0.width.1,
       rw (t, length-tabulate _ n) (omega arith),
       p.4,
-      rw t (all_small _ n 134217728 (λ x. down_small a.down (λ o. padded a.frame a.plane.now x (a.v + o))
+      rw t (all_small _ n 134217728 (λ x. down_small a.down.whole (λ o. padded a.frame a.plane.now x (a.v + o))
           (λ o. padded-le a.frame a.plane.now x (a.v + o) (omega (arith, c.well_formed)) (λ i. omega (arith, (c.type_inv.plane i).fits))))),
     )
 
@@ -54,5 +54,5 @@ returns c =
     let w = a.frame.width in
     let t = front-is _ _ _ _ c.sums_down.ensures in
     λ u b. filled_at _ w _ _ (pos 0) u c.sums_across.ensures b
-    ∙ held_ext a.across.offsets a.across.weights _ _ a.across.len (λ i k. rw t (get_d_tabulate _ (w + 30) (u + get_or a.across.offsets i 0) (pos 0) (omega (arith, b, a.across.near i k))))
-    ∙ numerator-is a.across a.down a.frame a.plane.now u a.v
+    ∙ held_ext a.across.taps.offsets a.across.taps.weights _ _ a.across.taps.len (λ i k. rw t (get_d_tabulate _ (w + 30) (u + get_or a.across.taps.offsets i 0) (pos 0) (omega (arith, b, a.across.whole.near i k))))
+    ∙ numerator-is a.across.taps a.down.taps a.frame a.plane.now u a.v

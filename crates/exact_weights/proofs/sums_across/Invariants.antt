@@ -13,4 +13,4 @@ abbrev pub at_offset : List ℤ → ℕ → ℕ → ℤ
 at_offset sums u o = get_or sums (u + o) (pos 0)
 
 abbrev pub invariant-loop-k : goal.invariant-loop-k
-invariant-loop-k l = l.wide ≡ tabulate (partial l.across.offsets l.across.weights (at_offset l.sums) (pos 0) l.k) l.w ++ drop l.w l.initial.wide
+invariant-loop-k l = l.wide ≡ tabulate (partial l.across.taps.offsets l.across.taps.weights (at_offset l.sums) (pos 0) l.k) l.w ++ drop l.w l.initial.wide

@@ -21,12 +21,12 @@ use Rattle.exact_weights.proofs.sums_down.Goals as goal
 
 pub overflow_add-v : goal.overflow_add-v
 overflow_add-v c =
-    record { fits = omega (arith, c.args.down.near c.loop-k.k c.loop-k-test.true, c.requires.1) }
+    record { fits = omega (arith, c.args.down.whole.near c.loop-k.k c.loop-k-test.true, c.requires.1) }
 
 pub padded_row-requires : goal.padded_row-requires
 padded_row-requires c =
     let p = c.requires in
-    (p.0, omega (arith, c.args.down.near c.loop-k.k c.loop-k-test.true, p.1), omega (arith, p.2))
+    (p.0, omega (arith, c.args.down.whole.near c.loop-k.k c.loop-k-test.true, p.1), omega (arith, p.2))
 
 pub add_tap-requires : goal.add_tap-requires
 add_tap-requires c =
@@ -34,16 +34,16 @@ add_tap-requires c =
     let p = c.requires in
     let L = c.loop-k in
     let n = a.frame.width + 30 in
-    let weight : to_z w32 (of_z w32 (get_or a.down.weights L.k (pos 0))) ≡ get_or a.down.weights L.k (pos 0) = search rules in (
+    let weight : to_z w32 (of_z w32 (get_or a.down.taps.weights L.k (pos 0))) ≡ get_or a.down.taps.weights L.k (pos 0) = search rules in (
       omega (arith, p.3),
-      rw c.padded_row.ensures (omega (arith, length_filled (λ x. padded a.frame a.plane.now x (a.v + get_or a.down.offsets L.k 0)) n L.row (omega (arith, p.2)), p.2)),
-      rw weight (omega (arith, weight_size a.down.weights L.k a.down.len c.loop-k-test.true, size_small a.down)),
+      rw c.padded_row.ensures (omega (arith, length_filled (λ x. padded a.frame a.plane.now x (a.v + get_or a.down.taps.offsets L.k 0)) n L.row (omega (arith, p.2)), p.2)),
+      rw weight (omega (arith, weight_size a.down.taps.weights L.k a.down.taps.len c.loop-k-test.true, size_small a.down.whole)),
       λ u b. rw (filled_at _ n _ L.sums (pos 0) u L.invariant b)
           (omega (
             arith,
-            partial_size a.down.offsets a.down.weights (reached a.frame a.plane.now a.v) (pos 0) 255
+            partial_size a.down.taps.offsets a.down.taps.weights (reached a.frame a.plane.now a.v) (pos 0) 255
                 (λ x o. padded-le a.frame a.plane.now x (a.v + o) (omega (arith, c.well_formed)) (λ i. omega (arith, (c.type_inv.plane i).fits)))
-                L.k a.down.len (omega (arith, c.loop-k-test.true)) (omega (arith, size_small a.down)) u,
+                L.k a.down.taps.len (omega (arith, c.loop-k-test.true)) (omega (arith, size_small a.down.whole)) u,
           )),
     )
 
@@ -53,8 +53,8 @@ loop-k-preserved c =
     let p = c.requires in
     let L = c.loop-k in
     let n = a.frame.width + 30 in
-    let weight : to_z w32 (of_z w32 (get_or a.down.weights L.k (pos 0))) ≡ get_or a.down.weights L.k (pos 0) = search rules in
-    partial_more a.down.offsets a.down.weights (reached a.frame a.plane.now a.v) (pos 0) L.k n _ L.sums _ _ _ weight (λ u b. ap pos (filled_at _ n L.row _ 0 u c.padded_row.ensures b)) L.invariant c.add_tap.ensures
+    let weight : to_z w32 (of_z w32 (get_or a.down.taps.weights L.k (pos 0))) ≡ get_or a.down.taps.weights L.k (pos 0) = search rules in
+    partial_more a.down.taps.offsets a.down.taps.weights (reached a.frame a.plane.now a.v) (pos 0) L.k n _ L.sums _ _ _ weight (λ u b. ap pos (filled_at _ n L.row _ 0 u c.padded_row.ensures b)) L.invariant c.add_tap.ensures
 
 pub loop-k-init : goal.loop-k-init
 unfolding partial held_sum
@@ -69,4 +69,4 @@ returns c =
     let k = le_antisymm L.auto.k-end c.loop-k-test.false in
     let n = a.frame.width + 30 in
     rw (filled_behind _ n _ _ c.start_at.ensures) at (rw k at L.invariant)
-    ∙ ap (λ (l : List ℤ). l ++ drop n a.sums.now) (tabulate_ext _ _ n (λ x _. all_taps a.down.offsets a.down.weights (reached a.frame a.plane.now a.v) a.down.len x))
+    ∙ ap (λ (l : List ℤ). l ++ drop n a.sums.now) (tabulate_ext _ _ n (λ x _. all_taps a.down.taps.offsets a.down.taps.weights (reached a.frame a.plane.now a.v) a.down.taps.len x))

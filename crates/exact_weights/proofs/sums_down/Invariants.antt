@@ -15,4 +15,4 @@ abbrev pub reached : Frame → List ℕ → ℕ → ℕ → ℕ → ℤ
 reached frame plane v x o = pos (padded frame plane x (v + o))
 
 abbrev pub invariant-loop-k : goal.invariant-loop-k
-invariant-loop-k l = l.sums ≡ tabulate (partial l.down.offsets l.down.weights (reached l.frame l.plane l.v) (pos 0) l.k) l.n ++ drop l.n l.initial.sums
+invariant-loop-k l = l.sums ≡ tabulate (partial l.down.taps.offsets l.down.taps.weights (reached l.frame l.plane l.v) (pos 0) l.k) l.n ++ drop l.n l.initial.sums

@@ -1,6 +1,5 @@
 -- `whole_taps::taps_of` meets its contract. Assumes nothing.
-use Rattle.std.proofs.Common.{arith}
-use Rattle.whole_taps.proofs.Kernels.{same-kernel, gain, small}
+use Rattle.whole_taps.proofs.Kernels.{same-kernel, whole, small}
 use Rattle.whole_taps.proofs.taps_of.Goals as goal
 
 pub numerators-weights-requires : goal.numerators-weights-requires
@@ -11,10 +10,7 @@ numerators-weights-requires c =
 
 pub invariant_of-result : goal.invariant_of-result
 invariant_of-result c =
-    let k = c.args.k in
-    let l = c.requires.0 in
-    let e = c.numerators-weights.ensures in
-    record { few = l.taps; near = l.near; low = c.requires.1; gain = gain k.divisor k.offsets k.values k.len _ e.1 l (omega (arith, e.0, l.taps)) }
+    record { whole = whole _ c.args.k.values c.numerators-weights.ensures.1 c.requires.0 c.requires.1 }
 
 pub returns : goal.returns
 returns c =
