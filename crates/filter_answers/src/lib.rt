@@ -104,12 +104,19 @@ pub fn picture_answer(bytes: &[u8], still: &[u8], limits: Limits) -> Result<Filt
     still_answer(recipe.tolerance, still, limits)
 }
 
-// The tests of the lent buffers for such an answer.
-pub fn lent_tests(recipe: &[u8], picture: Filtered, lent: Lent) -> Result<(), Refusal>
-    requires { Asked recipe.now (Ok picture) }
-    ensures { result ≡ verdict (lent_tests (recipe_stages recipe.now) lent (Ok picture)) }
+// The tests of the lent buffers for such an answer: a refusal asks for none of them.
+pub fn lent_tests(
+    recipe: &[u8],
+    answer: Result<Filtered, Refusal>,
+    lent: Lent,
+) -> Result<(), Refusal>
+    requires { Asked recipe.now answer }
+    ensures { result ≡ verdict (lent_tests (recipe_stages recipe.now) lent answer) }
 {
-    room::tests(recipe, picture.width, picture.height, picture.len, lent)
+    match answer {
+        Err(_) => Ok(()),
+        Ok(picture) => room::tests(recipe, picture.width, picture.height, picture.len, lent),
+    }
 }
 
 // What a call with these limits and buffers answers.
@@ -122,6 +129,6 @@ pub fn file_answer(
     ensures { result ≡ file_answer limits recipe.now still.now lent }
 {
     let picture = picture_answer(recipe, still, limits)?;
-    lent_tests(recipe, picture, lent)?;
+    lent_tests(recipe, Ok(picture), lent)?;
     Ok(picture)
 }

@@ -1,12 +1,12 @@
--- Laws of decimal digits, and how long a header is. Assumes nothing.
+-- Laws of decimal digits, and how long a header is, also in its array. Assumes nothing.
 use Prim.Native.Nat.{ℕ, zero, suc, ◌+◌, ◌/◌, ◌%◌, ◌^◌, ◌≤◌, ◌<◌}
 use native.Mathlib.Nat.{not-suc-le-zero}
 use native.Mathlib.Omega.{arith}
 use mathlib.Core.Path.{◌≡◌, ap}
 use mathlib.Core.List.{List, [], ◌∷◌, ◌++◌}
-use lib.ListN.{length, length-append}
+use lib.ListN.{length, length-append, length-take}
 use borrow.Author.Tests.{lt-ltb, le-ltb}
-use Rattle.header_writer.specs.Heading.{decimal_in, decimal, magic_line, header_bytes}
+use Rattle.header_writer.specs.Heading.{Sized, decimal_in, decimal, magic_line, header_bytes}
 
 -- ---- decimal digits
 
@@ -33,6 +33,11 @@ decimal-length (suc k) n h = grind (arith, decimal-length k (n / 10), decimal_sm
 -- a side has at most four digits
 pub decimal_few : (n : ℕ) → n ≤ 8192 → length (decimal n) ≤ 4
 decimal_few n h = decimal-length 3 n (omega arith)
+
+-- ---- a text in an array
+
+pub sized_fits : {bytes text : List ℕ} {len : ℕ} → Sized bytes len text → len ≤ length bytes
+sized_fits {bytes} {len = len} p = omega (arith, p.size, length-take len bytes, ap length p.is)
 
 -- ---- a whole header
 

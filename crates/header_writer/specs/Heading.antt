@@ -1,5 +1,10 @@
--- The header that is written ('P5 and P6').
-use Rattle.std.specs.Prelude.{ℕ, zero, suc, ◌+◌, ◌/◌, ◌%◌, true, false, cond, List, [], ◌∷◌, ◌++◌, eqb, ltb}
+-- The header that is written ('P5 and P6'), and a text that is built in an array.
+use Rattle.std.specs.Prelude.{ℕ, zero, suc, ◌+◌, ◌/◌, ◌%◌, ◌≡◌, true, false, cond, List, [], ◌∷◌, ◌++◌, length, take, eqb, ltb}
+
+-- a text in an array: its first bytes, so many
+pub record Sized (bytes : List ℕ) (len : ℕ) (text : List ℕ) : Type 0 where
+  pub size : len ≡ length text
+  pub is : take len bytes ≡ text
 
 -- the decimal digits of n, given more steps than it has digits
 unfoldable pub decimal_in : ℕ → ℕ → List ℕ

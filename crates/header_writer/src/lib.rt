@@ -2,21 +2,36 @@
 #![tactic(auto)]
 
 ghost use Rattle.std.specs.Prelude.{◌≡◌, [], ◌∷◌, ◌++◌, ◌+◌, ◌≤◌, ◌<◌, length, drop};
-ghost use Rattle.header_writer.specs.Heading.{decimal, magic_line, header_bytes};
+ghost use Rattle.header_writer.specs.Heading.{Sized, decimal, magic_line, header_bytes};
 
 use std::marker::Model;
 
 // The longest header, of 8192 by 8192, has so many bytes.
 const LONGEST: usize = 17;
 
+// A header: so many bytes, at the front of an array.
+#[derive(Clone, Copy)]
+pub struct Head {
+    pub bytes: [u8; LONGEST],
+    pub len: usize,
+}
+
+impl Head {
+    pub fn len(&self) -> usize
+        ensures { result ≡ self.now.len }
+    {
+        self.len
+    }
+}
+
 // The bytes of a header so far.
 #[derive(Drop)]
-pub struct Head {
+struct HeadBuilder {
     bytes: [u8; LONGEST],
     len: usize,
 }
 
-impl Model for Head {
+impl Model for HeadBuilder {
     ghost use Rattle.std.specs.Prelude.{ℕ, ◌≤◌, List, take};
 
     ghost Value = { List ℕ };
@@ -26,20 +41,14 @@ impl Model for Head {
     ghost invariant = { λ head. head.len ≤ 17 };
 }
 
-impl Head {
+impl HeadBuilder {
     fn new() -> Self
         ensures { result ≡ [] }
     {
-        Head {
+        HeadBuilder {
             bytes: [0; LONGEST],
             len: 0,
         }
-    }
-
-    pub fn len(&self) -> usize
-        ensures { result ≡ length self.now }
-    {
-        self.len
     }
 
     // One byte more.
@@ -72,12 +81,14 @@ impl Head {
         self.push(b'0' + (n % 10) as u8);
     }
 
-    // The bytes so far into the front of out.
-    fn put(&self, out: &mut [u8])
-        requires { length self.now ≤ length out.old }
-        ensures { out.new ≡ self.now ++ drop (length self.now) out.old }
+    // The header that these bytes are.
+    fn build(&self) -> Head
+        ensures { Sized result.bytes result.len self.now }
     {
-        buffers::copy_front(&self.bytes, out, self.len);
+        Head {
+            bytes: self.bytes,
+            len: self.len,
+        }
     }
 }
 
@@ -93,15 +104,15 @@ fn magic(channels: usize) -> &'static [u8; 3]
 #[tactic(auto, using(crate::proofs::HeadingLaws::decimal_few), unfolding(crate::specs::Heading::magic_line, crate::specs::Heading::header_bytes))]
 pub fn header(width: usize, height: usize, channels: usize) -> Head
     requires { (width ≤ 8192) × (height ≤ 8192) }
-    ensures { result ≡ header_bytes width height channels }
+    ensures { Sized result.bytes result.len (header_bytes width height channels) }
 {
-    let mut head = Head::new();
+    let mut head = HeadBuilder::new();
     head.extend_from_slice(magic(channels));
     head.push_number(width);
     head.push(b' ');
     head.push_number(height);
     head.extend_from_slice(b"\n255\n");
-    head
+    head.build()
 }
 
 // The header of a still into the front of out, giving its length.
@@ -110,6 +121,6 @@ pub fn put_header(width: usize, height: usize, channels: usize, out: &mut [u8]) 
     ensures { (result ≡ length (header_bytes width height channels)) × (out.new ≡ header_bytes width height channels ++ drop result out.old) }
 {
     let head = header(width, height, channels);
-    head.put(out);
-    head.len()
+    buffers::copy_front(&head.bytes, out, head.len);
+    head.len
 }

@@ -40,8 +40,8 @@ fn pair_tests(
     {
         return Err(Refusal::SizesDiffer);
     }
-    filter_answers::lent_tests(recipe1, first, lent1)?;
-    filter_answers::lent_tests(recipe2, second, lent2)
+    filter_answers::lent_tests(recipe1, Ok(first), lent1)?;
+    filter_answers::lent_tests(recipe2, Ok(second), lent2)
 }
 
 // What two runs come to under a limit: the tests in their order.

@@ -1,7 +1,5 @@
 -- `filter_answers::file_size` meets its contract. Assumes nothing.
 use native.Mathlib.Omega.{arith}
-use mathlib.Core.Path.{ap}
-use lib.ListN.{length}
 use Rattle.header_writer.proofs.HeadingLaws.{header-length}
 use Rattle.picture_sizes.proofs.PictureSizeLaws.{size_small}
 use Rattle.filter_answers.specs.FileAnswer.{file_size}
@@ -19,9 +17,9 @@ pub overflow_add-result : goal.overflow_add-result
 overflow_add-result c =
     let a = c.args in
     let p = c.requires in
-    omega (arith, size_small _ _ _ p.0 p.1 p.2, ap length c.header-head.ensures, c.len.ensures, header-length a.width a.height a.channels p.0 p.1)
+    omega (arith, size_small _ _ _ p.0 p.1 p.2, c.header-head.ensures.size, c.len.ensures, header-length a.width a.height a.channels p.0 p.1)
 
 pub returns : goal.returns
 unfolding file_size
 returns c =
-    rw (c.len.ensures, c.header-head.ensures)
+    rw (c.len.ensures, c.header-head.ensures.size)

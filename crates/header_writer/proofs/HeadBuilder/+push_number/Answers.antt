@@ -1,8 +1,8 @@
--- `header_writer::Head::push_number` meets its contract: the digits of n / 10, and then the last. Assumes nothing.
+-- `header_writer::HeadBuilder::push_number` meets its contract: the digits of n / 10, and then the last. Assumes nothing.
 use Rattle.std.proofs.Common.{◌≡◌, ◌+◌, ◌%◌, length, ap, arith, length-append, append_assoc}
 use Rattle.header_writer.proofs.HeadingLaws.{decimal_small, decimal-more}
-use Rattle.header_writer.proofs.Head.+push_number.Goals as goal
-use Rattle.header_writer.proofs.Head.+push_number.Goals.{then-n-ge10, else-n-ge10}
+use Rattle.header_writer.proofs.HeadBuilder.+push_number.Goals as goal
+use Rattle.header_writer.proofs.HeadBuilder.+push_number.Goals.{then-n-ge10, else-n-ge10}
 
 pub push_number-requires : goal.push_number-requires
 push_number-requires t c =
