@@ -76,7 +76,7 @@ fits steps n s o u d r xs ran is empty le all cut =
 abbrev steps : {A F : Type 0} → Mut F (Bor A × Unit {0}) Bool → SplitN A F → Option (Bor (List A)) → SplitN A F → Type 0
 steps {A} g s r t = (splitn_count t ≡ splitn_count s - 1) × MatchOption r ((splitn_count s ≡ 0) ⊎ (done s ≡ true))
     (λ x. (0 < splitn_count s) × (splitn_count s ≡ 1 → done t ≡ true) × MatchBool (done t) (left s ≡ x.now) ((y : A) × (left s ≡ x.now ++ (y ∷ left t))) × (done s ≡ false)
-        × (1 < splitn_count s → (p : A → Bool) → ComputesKey g p (split_callee (splitn_parts s)) → ComputesKey g p (split_callee (splitn_parts t)) × IsFirstMatchOrLen p (left s) (length x.now)))
+    × (1 < splitn_count s → (p : A → Bool) → ComputesKey g p (split_callee (splitn_parts s)) → ComputesKey g p (split_callee (splitn_parts t)) × IsFirstMatchOrLen p (left s) (length x.now)))
 
 -- which says what `Cut` does
 cut_of : {A F : Type 0} (g : Mut F (Bor A × Unit {0}) Bool) (s : SplitN A F) (x : Bor (List A)) (t : SplitN A F) → steps g s (Some x) t → Cut s x t
