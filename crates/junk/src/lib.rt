@@ -42,11 +42,12 @@ pub fn fill(work: &mut [u8], rows: &mut [i32], sums: &mut [u32], out: &mut [u8])
 
 // Whether a buffer is as it was, from a place on.
 pub fn kept_from<T: Junk>(values: &[T], from: usize) -> bool {
-    values
-        .iter()
-        .enumerate()
-        .skip(from)
-        .all(|(place, value)| *value == T::at(place))
+    for place in from..values.len() {
+        if values[place] != T::at(place) {
+            return false;
+        }
+    }
+    true
 }
 
 // Whether all four buffers are as they were.

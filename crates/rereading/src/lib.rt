@@ -31,7 +31,9 @@ fn rewritten(still: &[u8], out: &mut [u8]) -> Result<usize, Refusal>
 }
 
 // A still as it is written: nothing where it was refused.
-pub fn write_again<'a>(still: &[u8], out: &'a mut [u8]) -> &'a [u8] {
+pub fn write_again<'a>(still: &[u8], out: &'a mut [u8]) -> &'a [u8]
+    ensures { length result.now ≤ length out.old }
+{
     match rewritten(still, out) {
         Ok(len) => &out[..len],
         Err(_) => &[],

@@ -1,4 +1,6 @@
 // The files of a folder.
+ghost use Rattle.std.specs.Prelude.{◌≤◌, length};
+
 use arrayvec::ArrayVec;
 use std::io::Read;
 use std::rt::Files;
@@ -14,7 +16,9 @@ fn open<F: Files>(rt: &F, folder: &[u8], name: &[u8]) -> Option<F::File> {
 }
 
 // What was read until the buffer was full, the file ended or a read failed.
-fn read_full<'a>(file: &mut impl Read, bytes: &'a mut [u8]) -> &'a [u8] {
+fn read_full<'a>(file: &mut impl Read, bytes: &'a mut [u8]) -> &'a [u8]
+    ensures { length result.now ≤ length bytes.old }
+{
     let mut done = 0;
     while done < bytes.len() {
         let Ok(more) = file.read(&mut bytes[done..]) else {
@@ -42,7 +46,9 @@ pub fn load<'a>(
     name: &[u8],
     from: usize,
     bytes: &'a mut [u8],
-) -> &'a [u8] {
+) -> &'a [u8]
+    ensures { length result.now ≤ length bytes.old }
+{
     let Some(mut file) = open(rt, folder, name) else {
         return &[];
     };
@@ -51,16 +57,22 @@ pub fn load<'a>(
 }
 
 // The recipe of a folder.
-pub fn recipe<'a>(rt: &impl Files, folder: &[u8], bytes: &'a mut [u8]) -> &'a [u8] {
+pub fn recipe<'a>(rt: &impl Files, folder: &[u8], bytes: &'a mut [u8]) -> &'a [u8]
+    ensures { length result.now ≤ length bytes.old }
+{
     load(rt, folder, b"recipe", 0, bytes)
 }
 
 // The still of a folder, from a place on.
-pub fn still<'a>(rt: &impl Files, folder: &[u8], from: usize, bytes: &'a mut [u8]) -> &'a [u8] {
+pub fn still<'a>(rt: &impl Files, folder: &[u8], from: usize, bytes: &'a mut [u8]) -> &'a [u8]
+    ensures { length result.now ≤ length bytes.old }
+{
     load(rt, folder, b"still", from, bytes)
 }
 
 // The output that a folder's still has to give, from a place on.
-pub fn output<'a>(rt: &impl Files, folder: &[u8], from: usize, bytes: &'a mut [u8]) -> &'a [u8] {
+pub fn output<'a>(rt: &impl Files, folder: &[u8], from: usize, bytes: &'a mut [u8]) -> &'a [u8]
+    ensures { length result.now ≤ length bytes.old }
+{
     load(rt, folder, b"out", from, bytes)
 }

@@ -1,8 +1,12 @@
 // The words of an argument or of a line, with blanks between them.
 #![tactic(auto)]
 
+ghost use Rattle.std.specs.Prelude.{◌≡◌, ◌-◌, ◌≤◌, length, drop};
+
 // The word after k blanks: nothing where there are fewer.
-pub fn word(text: &[u8], k: usize) -> &[u8] {
+pub fn word(text: &[u8], k: usize) -> &[u8]
+    ensures { length result.now ≤ length text.now }
+{
     text.split(|b| *b == b' ').nth(k).unwrap_or(&[])
 }
 
@@ -11,8 +15,11 @@ pub fn letter(text: &[u8], k: usize) -> u8 {
     word(text, k).first().copied().unwrap_or(0)
 }
 
-// All that stands after k blanks.
-pub fn after(text: &[u8], k: usize) -> &[u8] {
+// All that stands after k blanks: nothing where there are fewer.
+pub fn after(text: &[u8], k: usize) -> &[u8]
+    ensures within { length result.now ≤ length text.now }
+    ensures back { result.now ≡ drop (length text.now - length result.now) text.now }
+{
     text.splitn(k.saturating_add(1), |b| *b == b' ')
         .nth(k)
         .unwrap_or(&[])
