@@ -41,9 +41,8 @@ fn levels_near(
     near_rows::row_near(received, channel, w, v, wide, 1, c)
 }
 
-// Whether each sample of a channel of a received raster lies within c levels of the ranks of a plane, row by row, by the method that is faster for its window: small
-// ones are searched by halving, and for others the counts of the grey levels are carried along each row.
-pub fn rank_near(
+// Ranks of any window: the counts of the grey levels are carried along each row.
+fn carried_near(
     frame: Frame,
     rank: Rank,
     plane: &[u8],
@@ -55,25 +54,61 @@ pub fn rank_near(
     ensures { result ≡ channel_near c 1 frame.width frame.height channel received.now (λ u v. numerator (Model.rank rank.window.r rank.window.s rank.position) (neighbours frame plane.now u v)) }
 {
     let w = frame.width;
-    let small = rank.window.r <= 3 && rank.window.s <= 3;
     let mut counts = [0u32; 256];
-    // seven rows of 8,192 samples, with 15 more on each side
-    let mut rows = [0u8; 57554];
-    let mut seen = [0u8; 8192];
     let mut levels = [0u8; 8192];
     let mut wide = [0i64; 8192];
-    if small {
-        small_ranks::first_rows(frame, rank.window.s, plane, &mut rows);
-    }
     for v in 0..frame.height {
-        if small {
-            small_ranks::rank_row(frame, rank, v, plane, &mut rows, &mut seen, &mut levels);
-        } else {
-            carried_ranks::rank_row(frame, rank, v, plane, &mut counts, &mut levels);
-        }
+        carried_ranks::rank_row(frame, rank, v, plane, &mut counts, &mut levels);
         if !levels_near(received, channel, w, v, &levels, &mut wide, c) {
             return false;
         }
     }
     true
+}
+
+// Ranks of a small window: they are searched by halving, all columns of a row side by side.
+fn small_near(
+    frame: Frame,
+    rank: Rank,
+    plane: &[u8],
+    received: &[u8],
+    channel: Channel,
+    c: u64,
+) -> bool
+    requires { Framed frame plane.now × (rank.window.r ≤ 3) × (rank.window.s ≤ 3) × Inside frame.width frame.height channel received.now × (c ≤ 255) }
+    ensures { result ≡ channel_near c 1 frame.width frame.height channel received.now (λ u v. numerator (Model.rank rank.window.r rank.window.s rank.position) (neighbours frame plane.now u v)) }
+{
+    let w = frame.width;
+    // seven rows of 8,192 samples, with 15 more on each side
+    let mut rows = [0u8; 57554];
+    let mut seen = [0u8; 8192];
+    let mut levels = [0u8; 8192];
+    let mut wide = [0i64; 8192];
+    small_ranks::first_rows(frame, rank.window.s, plane, &mut rows);
+    for v in 0..frame.height {
+        small_ranks::rank_row(frame, rank, v, plane, &mut rows, &mut seen, &mut levels);
+        if !levels_near(received, channel, w, v, &levels, &mut wide, c) {
+            return false;
+        }
+    }
+    true
+}
+
+// Whether each sample of a channel of a received raster lies within c levels of the ranks of a plane, by the method that is faster for its window.
+pub fn rank_near(
+    frame: Frame,
+    rank: Rank,
+    plane: &[u8],
+    received: &[u8],
+    channel: Channel,
+    c: u64,
+) -> bool
+    requires { Framed frame plane.now × Inside frame.width frame.height channel received.now × (c ≤ 255) }
+    ensures { result ≡ channel_near c 1 frame.width frame.height channel received.now (λ u v. numerator (Model.rank rank.window.r rank.window.s rank.position) (neighbours frame plane.now u v)) }
+{
+    if rank.window.r <= 3 && rank.window.s <= 3 {
+        small_near(frame, rank, plane, received, channel, c)
+    } else {
+        carried_near(frame, rank, plane, received, channel, c)
+    }
 }
