@@ -6,6 +6,7 @@ ghost use Rattle.model.specs.Box.{box_result};
 ghost use Rattle.frame.specs.Framed.{Framed, worked};
 ghost use Rattle.table_sizes.specs.Ring.{ring_size, row_start};
 ghost use Rattle.area_tables.specs.HeldTable.{HeldTable};
+ghost use Rattle.kept_planes.specs.HeldRow.{kept};
 
 use frame::Frame;
 use stage_values::Window;
@@ -35,10 +36,10 @@ fn write_rows(
     }
 }
 
-// A box stage on the plane at the front of `work`. The samples before are copied behind it first.
+// A box stage on the plane at the front of `work`. The samples before are copied behind it first, and stay there.
 pub fn box_stage(frame: Frame, window: Window, work: &mut [u8], sums: &mut [u32])
     requires { Framed frame (take (frame.height * frame.width) work.old) × (2 * (frame.height * frame.width) ≤ length work.old) × (ring_size frame.width window.r window.s ≤ length sums.old) }
-    ensures { take (frame.height * frame.width) work.new ≡ worked frame (box_result window.r window.s) (take (frame.height * frame.width) work.old) }
+    ensures { (take (frame.height * frame.width) work.new ≡ worked frame (box_result window.r window.s) (take (frame.height * frame.width) work.old)) × (kept frame work.new ≡ take (frame.height * frame.width) work.old) }
 {
     let n = frame.height * frame.width;
     // 15 + 8,192 + 15 samples, and what sums of four read behind a row

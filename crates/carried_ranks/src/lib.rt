@@ -43,10 +43,10 @@ pub fn rank_row(
     }
 }
 
-// A rank stage on a plane, into another one.
+// A rank stage on a plane, into the front of `dst`.
 pub fn rank_rows(frame: Frame, rank: Rank, plane: &[u8], dst: &mut [u8])
-    requires { Framed frame plane.now × (length dst.old ≡ frame.height * frame.width) }
-    ensures { dst.new ≡ worked frame (rank_result rank.window.r rank.window.s rank.position) plane.now }
+    requires { Framed frame plane.now × (frame.height * frame.width ≤ length dst.old) }
+    ensures { dst.new ≡ worked frame (rank_result rank.window.r rank.window.s rank.position) plane.now ++ drop (frame.height * frame.width) dst.old }
 {
     let w = frame.width;
     let mut counts = [0u32; 256];

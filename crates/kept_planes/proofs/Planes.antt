@@ -1,10 +1,10 @@
 -- Two planes in one buffer: a copy behind the one that is written, which is written row by row. Assumes nothing.
 use Prim.Native.Nat.{ℕ, ◌+◌, ◌-◌, ◌*◌, ◌≤◌, ◌<◌}
-use native.Mathlib.Nat.{zero-mul, mul-le-mul_right}
+use native.Mathlib.Nat.{le_refl, zero-mul, mul-le-mul_right}
 use native.Mathlib.Omega.{arith}
 use mathlib.Core.Path.{◌≡◌, refl, sym, ◌∙◌}
 use mathlib.Core.List.{List, ◌++◌, append-nil, append_assoc}
-use lib.ListN.{length, take, drop, drop_of_length-le}
+use lib.ListN.{length, take, drop, length-append, length-drop, drop_of_length-le}
 use lib.Seq.{length-take-le, take_at, drop_at}
 use Rattle.lists.specs.Tabulate.{tabulate, raster}
 use Rattle.lists.proofs.Part.{drop_past}
@@ -21,6 +21,17 @@ behind_copied n d l h e = rw (e, append_assoc, drop_at (take n d) _ n (length-ta
 pub kept_same : (f : Frame) (g : ℕ → ℕ → ℕ) (d l : List ℕ) {at v : ℕ} → StoredRows g f.width f.height d l at v → kept f l ≡ kept f d
 kept_same f g d l {at} {v} s =
     rw (s.front, drop_past (raster g f.width v) d at (f.height * f.width) (length-raster g f.width v ∙ sym s.place) (omega (arith, s.place, mul-le-mul_right f.width s.so_far)))
+
+module _ (f : Frame) (g : ℕ → ℕ → ℕ) (rows behind : List ℕ) (e : rows ≡ raster g f.width f.height) where
+  -- what a stage leaves in front, whatever is behind
+  pub rows_written : take (f.height * f.width) (rows ++ behind) ≡ raster g f.width f.height
+  rows_written = rw e (take_at (raster g f.width f.height) behind (f.height * f.width) (length-raster g f.width f.height))
+
+  -- and behind: where it was lent the two parts of a buffer k, the plane that was kept there
+  pub kept_behind : (k : List ℕ) → 2 * (f.height * f.width) ≤ length k → behind ≡ drop (f.height * f.width) k → kept f (rows ++ behind) ≡ kept f k
+  kept_behind k h eb =
+      let long : length (rows ++ behind) ≡ length k = rw (e, eb, length-append, length-raster, length-drop) (omega (arith, h)) in
+      kept_same f g k (rows ++ behind) (record { so_far = le_refl f.height; place = refl; front = rw (e, eb) refl; long = long })
 
 -- ---- a plane that is written row by row, over d
 

@@ -12,7 +12,8 @@ pub fn keep(work: &mut [u8], n: usize)
     requires { n + n ≤ length work.old }
     ensures { work.new ≡ take n work.old ++ take n work.old ++ drop (n + n) work.old }
 {
-    work.copy_within(..n, n);
+    let (front, behind) = work.split_at_mut(n);
+    behind[..n].copy_from_slice(front);
 }
 
 // Rows v - 1, v and v + 1: the two that are held move up, and the third is made.

@@ -6,7 +6,7 @@ ghost use Rattle.lists.specs.Tabulate.{tabulate};
 ghost use Rattle.model.specs.Outline.{edge_strength, outline_result};
 ghost use Rattle.frame.specs.Framed.{Framed, worked};
 ghost use Rattle.outlines.specs.Square.{square_at};
-ghost use Rattle.kept_planes.specs.HeldRow.{Held};
+ghost use Rattle.kept_planes.specs.HeldRow.{kept, Held};
 
 use frame::Frame;
 
@@ -50,10 +50,10 @@ fn write_rows(
     }
 }
 
-// An outline stage on the plane at the front of `work`. The samples before are copied behind it first.
+// An outline stage on the plane at the front of `work`. The samples before are copied behind it first, and stay there.
 pub fn outline_stage(frame: Frame, work: &mut [u8])
     requires { Framed frame (take (frame.height * frame.width) work.old) × (2 * (frame.height * frame.width) ≤ length work.old) }
-    ensures { take (frame.height * frame.width) work.new ≡ worked frame outline_result (take (frame.height * frame.width) work.old) }
+    ensures { (take (frame.height * frame.width) work.new ≡ worked frame outline_result (take (frame.height * frame.width) work.old)) × (kept frame work.new ≡ take (frame.height * frame.width) work.old) }
 {
     let n = frame.height * frame.width;
     let mut above = [0u8; 8224];

@@ -54,10 +54,10 @@ pub fn rank_row(
     rank_search::rank_row(rows, w, r, 2 * s + 1, p, dst, seen);
 }
 
-// A rank stage of a small window on a plane, into another one.
+// A rank stage of a small window on a plane, into the front of `dst`.
 pub fn rank_rows(frame: Frame, rank: Rank, plane: &[u8], dst: &mut [u8])
-    requires { Framed frame plane.now × (rank.window.r ≤ 3) × (rank.window.s ≤ 3) × (length dst.old ≡ frame.height * frame.width) }
-    ensures { dst.new ≡ worked frame (rank_result rank.window.r rank.window.s rank.position) plane.now }
+    requires { Framed frame plane.now × (rank.window.r ≤ 3) × (rank.window.s ≤ 3) × (frame.height * frame.width ≤ length dst.old) }
+    ensures { dst.new ≡ worked frame (rank_result rank.window.r rank.window.s rank.position) plane.now ++ drop (frame.height * frame.width) dst.old }
 {
     let w = frame.width;
     // seven rows of 8,192 samples, with 15 more on each side

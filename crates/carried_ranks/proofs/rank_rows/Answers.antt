@@ -3,8 +3,6 @@ use Prim.Native.Nat.{◌+◌, ◌*◌}
 use native.Mathlib.Nat.{zero-mul}
 use native.Mathlib.Omega.{arith}
 use mathlib.Core.Path.{◌≡◌, refl}
-use mathlib.Core.List.{append-nil}
-use lib.Seq.{drop-length}
 use Rattle.frame.specs.Framed.{worked}
 use Rattle.lists.proofs.Stored.{rows_stored_none, rows_stored_more, rows_stored_done}
 use borrow.Author.Rules.{rules}
@@ -18,9 +16,9 @@ pub loop-v-preserved : goal.loop-v-preserved
 loop-v-preserved c =
     let w = c.args.frame.width in
     let next : (c.loop-v.v + 1) * w ≡ c.loop-v.v * w + w = omega arith in
-    (rw next (rows_stored_more c.loop-v.invariant.0 c.loop-v-test.true _ (omega (arith, c.requires.1)) c.rank_row.ensures), search rules)
+    (rw next (rows_stored_more c.loop-v.invariant.0 c.loop-v-test.true _ c.requires.1 c.rank_row.ensures), search rules)
 
 pub returns : goal.returns
 unfolding worked
 returns c =
-    rw (← c.requires.1, drop-length, append-nil) at (rows_stored_done c.loop-v.invariant.0 c.loop-v-test.false)
+    rows_stored_done c.loop-v.invariant.0 c.loop-v-test.false

@@ -50,16 +50,16 @@ pub returns-in-Boxed : goal.returns-in-Boxed
 returns-in-Boxed c =
     let a = c.args in
     let x = take (a.h * a.w) a.work.now in
-    λ t k. c.box_stage.ensures ∙ box_plane a.w a.h a.s x t k c.in-Boxed.is
+    λ t k. c.box_stage.ensures.0 ∙ box_plane a.w a.h a.s x t k c.in-Boxed.is
 
 pub returns-in-Ranked : goal.returns-in-Ranked
 returns-in-Ranked c =
     let a = c.args in
     let x = take (a.h * a.w) a.work.now in
-    λ t k. c.rank_stage.ensures ∙ rank_plane a.w a.h a.s x t k c.in-Ranked.is
+    λ t k. c.rank_stage.ensures.0 ∙ rank_plane a.w a.h a.s x t k c.in-Ranked.is
 
 pub returns-in-Outlined : goal.returns-in-Outlined
 returns-in-Outlined c =
     let a = c.args in
     let x = take (a.h * a.w) a.work.now in
-    λ t k. c.outline_stage.ensures ∙ outline_plane a.w a.h a.s x t k c.in-Outlined.is
+    λ t k. c.outline_stage.ensures.0 ∙ outline_plane a.w a.h a.s x t k c.in-Outlined.is
