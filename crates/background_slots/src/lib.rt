@@ -87,7 +87,7 @@ pub fn put_raster(rasters: &mut [u8], i: usize, size: usize, raster: &[u8])
     ensures { rasters.new ≡ with_raster size i raster.now rasters.old }
 {
     let start = i * size;
-    rasters[start..start + size].copy_from_slice(raster);
+    buffers::copy_all(raster, &mut rasters[start..start + size]);
 }
 
 // The raster of slot `from` into slot `to`, which is before it or the same.

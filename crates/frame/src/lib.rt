@@ -49,7 +49,7 @@ fn row_and_sides(frame: Frame, row: &[u8], dst: &mut [u8])
     let w = frame.width;
     let end = REACH + w;
     side(frame, row, 0, dst);
-    dst[REACH..end].copy_from_slice(&row[..w]);
+    buffers::copy_all(&row[..w], &mut dst[REACH..end]);
     side(frame, row, end, &mut dst[end..]);
 }
 

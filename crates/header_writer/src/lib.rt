@@ -66,7 +66,7 @@ impl HeadBuilder {
         ensures { self.new ≡ self.old ++ more.now }
     {
         let end = self.len + more.len();
-        self.bytes[self.len..end].copy_from_slice(more);
+        buffers::copy_all(more, &mut self.bytes[self.len..end]);
         self.len = end;
     }
 

@@ -13,7 +13,7 @@ pub fn keep(work: &mut [u8], n: usize)
     ensures { work.new ≡ take n work.old ++ take n work.old ++ drop (n + n) work.old }
 {
     let (front, behind) = work.split_at_mut(n);
-    behind[..n].copy_from_slice(front);
+    buffers::copy_all(front, &mut behind[..n]);
 }
 
 // Rows v - 1, v and v + 1: the two that are held move up, and the third is made.
@@ -29,7 +29,7 @@ pub fn next_rows(
     ensures { Held frame plane.now (14 + v) above.new × Held frame plane.now (15 + v) here.new × Held frame plane.now (16 + v) below.new }
 {
     let n = frame.width + 30;
-    above[..n].copy_from_slice(&here[..n]);
-    here[..n].copy_from_slice(&below[..n]);
+    buffers::copy_all(&here[..n], &mut above[..n]);
+    buffers::copy_all(&below[..n], &mut here[..n]);
     frame::padded_row(frame, plane, 16 + v, below);
 }

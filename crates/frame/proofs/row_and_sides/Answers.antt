@@ -5,4 +5,4 @@ use Rattle.frame.proofs.row_and_sides.Goals as goal
 pub returns : goal.returns
 returns c =
     let a = c.args in
-    row_with_sides a.frame a.row.now c.requires.2 a.dst.now _ _ _ c.side.ensures c.copy_from_slice.ensures.after c.side-2.ensures
+    row_with_sides a.frame a.row.now c.requires.2 a.dst.now _ _ _ c.side.ensures c.copy_all.ensures c.side-2.ensures
