@@ -1,5 +1,5 @@
--- The axes of a stage without weights are free: an outline whose axes hold what no weighted stage may. Assumes nothing.
-use mathlib.Core.Path.{refl}
+-- The axes of a stage without weights are free. Assumes nothing.
+use mathlib.Core.Path.{◌≡◌, refl}
 use Rattle.std.specs.Prelude.{pos}
 use Rattle.lists.specs.Tabulate.{tabulate}
 use Rattle.model.specs.Border as Edge
@@ -10,14 +10,11 @@ use Rattle.stage_values.specs.declared.Work.TheVariants.{Outlined}
 use Rattle.stage_values.specs.declared.Stage.{Stage}
 use Rattle.stage_values.specs.Stands.{Stands}
 
--- 40 taps held as 255, each of weight 1: too many, out of reach, and of too large a gain
-abbrev pub far_axis : Axis
+-- an axis may hold what no weighted stage may: 40 taps held as 255, each of weight 1, so too many, out of reach, and of too large a gain
+pub far_axis : Axis
 far_axis = record { offsets = tabulate (λ _. 255) 31; weights = tabulate (λ _. pos 65536) 31; len = 40; rounded = 40; gain = 0 }
 
-abbrev pub far_outline : Stage
-far_outline = record { border = Nearest; value = 0; work = Outlined; across = far_axis; down = far_axis }
-
--- it stands for the model's outline
-pub outline_stands : Stands far_outline (Model.stage Edge.nearest 0 Model.outline)
+-- and whatever two axes hold, a stage that has them stands for the model's outline
+pub outline_stands : (a d : Axis) → (s : Stage) × (s.across ≡ a) × (s.down ≡ d) × Stands s (Model.stage Edge.nearest 0 Model.outline)
 unfolding Model.stage
-outline_stands = record { border = refl; value = refl; work = refl }
+outline_stands a d = (record { border = Nearest; value = 0; work = Outlined; across = a; down = d }, refl, refl, record { border = refl; value = refl; work = refl })
