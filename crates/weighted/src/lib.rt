@@ -29,7 +29,14 @@ fn reach_of(axis: LightAxis) -> Reach
 }
 
 // The row values of `count` rows, from place `first` on.
-fn all_rows(frame: Frame, plane: &[u8], axis: LightAxis, first: usize, count: usize, rows: &mut [i32])
+fn all_rows(
+    frame: Frame,
+    plane: &[u8],
+    axis: LightAxis,
+    first: usize,
+    count: usize,
+    rows: &mut [i32],
+)
     requires { Framed frame plane.now × (first ≤ 15) × (count ≤ 8222) × (count * frame.width ≤ length rows.old) }
     ensures { rows.new ≡ raster (λ u y. held_row axis.taps (padded frame plane.now) u (first + y)) frame.width count ++ drop (count * frame.width) rows.old }
 {
@@ -42,7 +49,13 @@ fn all_rows(frame: Frame, plane: &[u8], axis: LightAxis, first: usize, count: us
 }
 
 // A weighted stage on a plane, in place: the row values hold what it needs of the samples before. No row is made that no tap reaches.
-pub fn weighted_stage(frame: Frame, across: LightAxis, down: LightAxis, plane: &mut [u8], rows: &mut [i32])
+pub fn weighted_stage(
+    frame: Frame,
+    across: LightAxis,
+    down: LightAxis,
+    plane: &mut [u8],
+    rows: &mut [i32],
+)
     requires { Framed frame plane.old × ((frame.height + 30) * frame.width ≤ length rows.old) }
     ensures { (K L : Kernel) → Ready K across.taps → Ready L down.taps → plane.new ≡ worked frame (weighted_result K L) plane.old }
 {

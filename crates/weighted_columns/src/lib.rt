@@ -48,7 +48,14 @@ pub struct Reach {
 }
 
 // The levels of a plane of w by h, from row values whose first row is the first that is reached.
-pub fn all_columns(rows: &[i32], w: usize, h: usize, reach: Reach, axis: LightAxis, plane: &mut [u8])
+pub fn all_columns(
+    rows: &[i32],
+    w: usize,
+    h: usize,
+    reach: Reach,
+    axis: LightAxis,
+    plane: &mut [u8],
+)
     requires { (w ≤ 8192) × (h ≤ 8192) × (length plane.old ≡ h * w) × Reaches axis.taps.offsets axis.taps.len reach.first reach.last × (length rows.now ≡ (h + (reach.last - reach.first)) * w) × ((i : ℕ) → nat_abs (get_or rows.now i (pos 0)) ≤ 65536) }
     ensures { plane.new ≡ raster (λ u v. level_of (axis_sum axis.taps (λ o. get_or rows.now ((v + (o - reach.first)) * w + u) (pos 0)))) w h }
 {

@@ -42,7 +42,7 @@ loop-preserved c =
     let n = c.stage_length.ensures in
     record {
       accepted = rw (tail_mid c.stage_length.result b, n.0) (rest_passes _ _ b t L.invariant.accepted).1;
-      most = L.invariant.most ∙ rw (rest_stages _ _ b t, tail_mid c.stage_length.result b, n.0, c.max-need.ensures) (need_more c.args.w _ _ L.need _ (c.work_sums.ensures _ c.read_stage-stage.ensures));
+      most = L.invariant.most ∙ rw (rest_stages _ _ b t, tail_mid c.stage_length.result b, n.0, c.max-need.ensures) (need_more c.args.w _ _ L.need _ (c.work_sums.ensures _ c.read_stage-stage.ensures.0));
     }
 
 pub returns : goal.returns
