@@ -5,7 +5,7 @@ use native.Mathlib.Omega.{arith}
 use mathlib.Core.Path.{◌≡◌, refl, sym, ap, ◌∙◌}
 use mathlib.Core.Bool.{Bool, true, false, cond}
 use mathlib.Core.List.{List, [], ◌∷◌, map}
-use lib.ListN.{length, get_or, take}
+use lib.ListN.{get_or, take}
 use lib.Dec.{ltb, ltb→lt, lt→ltb}
 use lib.IntN.{ℤ, pos, nat_abs, ◌+ℤ◌, ◌-ℤ◌, ◌*ℤ◌}
 use lib.Signed.{lt_z}
@@ -17,14 +17,11 @@ use Rattle.integers.proofs.Order.{lt_of_parts, parts_of_lt}
 use Rattle.lists.specs.Tabulate.{tabulate}
 use Rattle.lists.specs.Count.{count}
 use Rattle.lists.proofs.Tabulate.{length-tabulate, tabulate_ext, mem_tabulate, entry_known}
-use Rattle.lists.proofs.Count.{count_ext, count-length}
+use Rattle.lists.proofs.Count.{count_ext}
 use Rattle.model.specs.Kernel.{tap, kernel, magnitude}
 use Rattle.model.specs.Apportion.{quotient, remainder, rounded, rounded_taps, distance, nearer, comes_before, served_before, gets_unit, share, apportion}
 use Rattle.model.specs.Tolerance.{scaled_gain}
 use Rattle.model_laws.proofs.Apportion.{lacking_by_remainders}
-use Rattle.model_laws.proofs.Bounds.{magnitude-apportion}
-use Rattle.stage_values.specs.Size.{held_size}
-use Rattle.kernels.proofs.Sizes.{size_is}
 use Rattle.stage_values.specs.Place.{offset_of}
 use Rattle.numerators.specs.Numerator.{numerator_of, remainder_of}
 use Rattle.kernels.specs.Kernel.{tap_of, kernel_of, Limits}
@@ -139,35 +136,15 @@ module _ (divisor : ℕ) (offsets values : List ℕ) (n : ℕ) (l : Limits divis
   unfolding numerator_of
   value_small i h = omega (arith, one_within divisor offsets values n l i h, abs_diff (get_or values i 0) 274877906944, l.few)
 
--- no more weights are rounded than there are taps
-few_rounded : (divisor : ℕ) (offsets values : List ℕ) (n : ℕ) → rounded_taps (kernel_of divisor offsets values n) ≤ n
-unfolding rounded_taps kernel_of kernel
-few_rounded divisor offsets values n =
-    let taps = tabulate (tap_of offsets values) n in
-    omega (arith, count-length (rounded divisor) taps, length-tabulate (tap_of offsets values) n)
-
 -- an axis of the code is the model's, and ready
 module _ (divisor : ℕ) (offsets values : List ℕ) (n m rounded gain : ℕ) (weights : List ℤ) (l : Limits divisor offsets values n)
     (e : take n weights ≡ map (λ t. t.weight) (apportion (kernel_of divisor offsets values n))) (r : rounded ≡ rounded_taps (kernel_of divisor offsets values n))
-    (f : m ≡ sum (tabulate (λ i. nat_abs (numerator_of (get_or values i 0))) n)) (g : gain ≡ ceil_div (65536 * m) divisor) (w : 31 ≡ length weights) where
+    (f : m ≡ sum (tabulate (λ i. nat_abs (numerator_of (get_or values i 0))) n)) (g : gain ≡ ceil_div (65536 * m) divisor) where
   gain-is : gain ≡ scaled_gain (kernel_of divisor offsets values n)
   unfolding kernel_of kernel scaled_gain
   gain-is = g ∙ ap (λ (k : ℕ). ceil_div (65536 * k) divisor) (f ∙ sym (magnitude-is offsets values n))
 
-  gain_limited : gain ≤ 262144
-  unfolding kernel_of kernel scaled_gain
-  gain_limited = rw gain-is (ceil_least (65536 * magnitude (tabulate (tap_of offsets values) n)) divisor 262144 l.some (omega (arith, l.gain)))
-
-  -- the weights are of a gain of about 4 at most, by what each of them is rounded
-  pub size_limited : held_size weights n ≤ 262175
-  unfolding kernel_of kernel
-  size_limited =
-      let K = kernel_of divisor offsets values n in
-      rw (size_is weights n (apportion K) (omega (arith, l.taps)) e)
-      (omega (arith, magnitude-apportion K l.some, gain-is, gain_limited, few_rounded divisor offsets values n, l.taps))
-
-  pub axis_ready : {few : n ≤ 31} {near : (i : ℕ) → i < n → get_or offsets i 0 ≤ 30} {size : held_size weights n ≤ 262175}
-      → Ready (kernel_of divisor offsets values n) (record { offsets = offsets; weights = weights; len = n; rounded = rounded; gain = gain; few = few; near = near; size = size })
+  pub axis_ready : Ready (kernel_of divisor offsets values n) (record { offsets = offsets; weights = weights; len = n; rounded = rounded; gain = gain })
   unfolding kernel_of kernel tap_of tap scaled_gain
   axis_ready = record {
     count = sym (length-tabulate (tap_of offsets values) n);
@@ -175,6 +152,8 @@ module _ (divisor : ℕ) (offsets values : List ℕ) (n m rounded gain : ℕ) (w
     shares = e;
     rounded = r;
     scaled-gain = gain-is;
-    limited = gain_limited;
+    few = l.taps;
+    near = l.near;
+    limited = rw gain-is (ceil_least (65536 * magnitude (tabulate (tap_of offsets values) n)) divisor 262144 l.some (omega (arith, l.gain)));
     divided = l.some;
   }

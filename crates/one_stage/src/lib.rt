@@ -9,7 +9,7 @@ ghost use Rattle.stage_values.specs.Stands.{Stands};
 ghost use Rattle.table_sizes.specs.Needs.{work_sums};
 
 use frame::Frame;
-use stage_values::{Stage, Work};
+use stage_values::{LightAxis, Stage, Work};
 
 // One stage, on the plane at the front of `work`.
 pub fn run_stage(s: Stage, w: usize, h: usize, work: &mut [u8], rows: &mut [i32], sums: &mut [u32])
@@ -25,7 +25,9 @@ pub fn run_stage(s: Stage, w: usize, h: usize, work: &mut [u8], rows: &mut [i32]
     };
     match s.work {
         Work::Weighted => {
-            weighted::weighted_stage(frame, s.across, s.down, &mut work[..n], rows);
+            let across = LightAxis { taps: s.across };
+            let down = LightAxis { taps: s.down };
+            weighted::weighted_stage(frame, across, down, &mut work[..n], rows);
         }
         Work::Boxed(window) => boxes::box_stage(frame, window, work, sums),
         Work::Ranked(rank) => ranks::rank_stage(frame, rank, work),

@@ -4,6 +4,7 @@
 ghost use Rattle.std.specs.Prelude.{◌≡◌, ◌≤◌, length};
 ghost use Rattle.refusals.specs.Refusal.{verdict};
 ghost use Rattle.model.specs.Stage.{stage};
+ghost use Rattle.stage_values.specs.Light.{Light};
 ghost use Rattle.stage_values.specs.Ready.{Ready};
 ghost use Rattle.stage_values.specs.Stands.{border_is, Stands};
 ghost use Rattle.recipe_bytes.specs.Bytes.{at};
@@ -82,7 +83,9 @@ fn border_of(b: u8) -> Border
 }
 
 // An axis without taps.
-fn no_axis() -> Axis {
+fn no_axis() -> Axis
+    ensures { Light result }
+{
     Axis {
         offsets: [0u8; 31],
         weights: [0i32; 31],
@@ -95,7 +98,7 @@ fn no_axis() -> Axis {
 // An axis of the stage of a kind, 0 across and 1 down, after its header bytes: without taps where the stage has no kernels.
 fn axis_for(part: &[u8], kind: Kind, axis: usize) -> Axis
     requires { (axis ≤ 1) × (verdict (work_tests (number kind) part.now) ≡ Ok tt) }
-    ensures { number kind ≤ 3 → Ready (kernel_for (number kind) axis part.now) result }
+    ensures { (number kind ≤ 3 → Ready (kernel_for (number kind) axis part.now) result) × Light result }
 {
     match kind {
         Kind::Ratios => kernels::axis_of(recipe_kernels::kernel_on(part, false, axis)),
@@ -135,7 +138,7 @@ fn work_for(part: &[u8], kind: Kind) -> Work
 // The stage of a kind, after its header bytes.
 fn stage_of(part: &[u8], kind: Kind, border: Border, value: u8) -> Stage
     requires { verdict (work_tests (number kind) part.now) ≡ Ok tt }
-    ensures { Stands result (stage (border_is border) value (work_of (number kind) part.now)) }
+    ensures { Stands result (stage (border_is border) value (work_of (number kind) part.now)) × Light result.across × Light result.down }
 {
     Stage {
         border,
@@ -149,7 +152,7 @@ fn stage_of(part: &[u8], kind: Kind, border: Border, value: u8) -> Stage
 // The stage at the front of a part, by value.
 pub fn read_stage(part: &[u8]) -> Stage
     requires { verdict (stage_tests part.now) ≡ Ok tt }
-    ensures { Stands result (stage_of part.now) }
+    ensures { Stands result (stage_of part.now) × Light result.across × Light result.down }
 {
     let border = border_of(part[1]);
     stage_of(&part[3..], kind_of(part), border, part[2])

@@ -10,4 +10,4 @@ use Rattle.stage_values.specs.Ready.{Ready}
 -- no more weights are rounded than there are taps
 pub rounded_few : {K : Kernel} {axis : Axis} → Ready K axis → axis.rounded ≤ 31
 unfolding rounded_taps
-rounded_few {K} {axis} r = omega (arith, r.rounded, count-length (rounded K.divisor) K.taps, r.count, axis.few)
+rounded_few {K} r = omega (arith, r.rounded, count-length (rounded K.divisor) K.taps, r.count, r.few)

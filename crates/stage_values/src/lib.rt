@@ -1,9 +1,9 @@
 // What a stage on a plane goes by, as values: no word here of the bytes that they are read from.
 #![tactic(auto)]
 
-ghost use Rattle.std.specs.Prelude.{ℕ, ◌≤◌, ◌<◌, get_or};
+ghost use Rattle.std.specs.Prelude.{◌≤◌};
 ghost use Rattle.model.specs.Window.{area};
-ghost use Rattle.stage_values.specs.Size.{held_size};
+ghost use Rattle.stage_values.specs.Light.{Light};
 
 // What the frame rule supplies outside.
 #[derive(Clone, Copy)]
@@ -40,7 +40,6 @@ pub enum Work {
 }
 
 // The taps of one axis: offsets 15 too large, weights in 65,536ths and how many of them are rounded, and 65,536 times the gain, rounded up.
-// Few taps, offsets within reach, and weights of a gain of about 4 at most.
 #[derive(Clone, Copy)]
 pub struct Axis {
     pub offsets: [u8; 31],
@@ -48,9 +47,13 @@ pub struct Axis {
     pub len: usize,
     pub rounded: usize,
     pub gain: u64,
-    ghost few: { len ≤ 31 },
-    ghost near: { (i : ℕ) → i < len → get_or offsets i 0 ≤ 30 },
-    ghost size: { held_size weights len ≤ 262175 },
+}
+
+// The taps of an axis that a weighted stage runs: few, within reach, and of a gain of about 4 at most.
+#[derive(Clone, Copy)]
+pub struct LightAxis {
+    pub taps: Axis,
+    ghost light: { Light taps },
 }
 
 // A stage, with both axes where its work is weighted.

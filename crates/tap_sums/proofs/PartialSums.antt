@@ -15,6 +15,7 @@ use Rattle.lists.proofs.Tabulate.{tabulate_ext, filled_at, refill}
 use Rattle.lists.proofs.Raster.{row_fits}
 use Rattle.stage_values.specs.declared.Axis.{Axis}
 use Rattle.stage_values.specs.Size.{held_size}
+use Rattle.stage_values.specs.Light.{Light}
 use Rattle.tap_sums.specs.HeldSums.{held_sum, axis_sum, held_row, row_of, level_of}
 use Rattle.integers.proofs.Parts.{abs_add}
 use Rattle.tap_sums.proofs.SumLaws.{held_ext, held_size_lem, size_mono, half_last}
@@ -46,11 +47,12 @@ pub shifted : {A : Type 0} (row : List A) (at u : ℕ) (a : A) → get_or (take 
 shifted row at u a = rw (tail_mid at row) (get_or-drop at row u a ∙ ap (λ (k : ℕ). get_or row k a) (add_comm at u))
 
 -- the row values of a row that was supplied
-pub row-supplied : (a : Axis) (w y : ℕ) (p : ℕ → ℕ → ℕ) (d row : List ℕ) → row ≡ tabulate (λ x. p x y) (w + 30) ++ drop (w + 30) d
+pub row-supplied : (a : Axis) (w y : ℕ) (p : ℕ → ℕ → ℕ) (d row : List ℕ) → Light a
+    → row ≡ tabulate (λ x. p x y) (w + 30) ++ drop (w + 30) d
     → tabulate (λ u. row_of (axis_sum a (λ o. pos (get_or row (u + o) 0)))) w ≡ tabulate (λ u. held_row a p u y) w
 unfolding held_row
-row-supplied a w y p d row e =
-    tabulate_ext _ _ w (λ u b. ap row_of (held_ext a.offsets a.weights _ _ a.len (λ i k. ap pos (filled_at _ (w + 30) d row 0 (u + get_or a.offsets i 0) e (omega (arith, b, a.near i k))))))
+row-supplied a w y p d row l e =
+    tabulate_ext _ _ w (λ u b. ap row_of (held_ext a.offsets a.weights _ _ a.len (λ i k. ap pos (filled_at _ (w + 30) d row 0 (u + get_or a.offsets i 0) e (omega (arith, b, l.near i k))))))
 
 -- the last row that a tap reaches is there
 pub column_fits : (v h o first last w : ℕ) → v < h → o ≤ last → v * w + ((o - first) * w + w) ≤ (h + (last - first)) * w

@@ -20,6 +20,7 @@ use Rattle.model.specs.Weighted.{row_value, weighted_result}
 use Rattle.lists.proofs.Sums.{map-tabulate}
 use Rattle.stage_values.specs.declared.Axis.{Axis}
 use Rattle.stage_values.specs.Place.{offset_of}
+use Rattle.stage_values.specs.Light.{Light}
 use Rattle.stage_values.specs.Ready.{Ready}
 use Rattle.frame.specs.declared.Frame.{Frame}
 use Rattle.frame.specs.Framed.{neighbours}
@@ -91,11 +92,11 @@ floor_small : (z q : ℤ) → Floor z 1024 q → nat_abs z ≤ 66855137 → nat_
 floor_small z (pos a) l h = omega (arith, l, abs_parts z)
 floor_small z (negsuc a) l h = omega (arith, l, abs_parts z)
 
-pub row_small : (a : Axis) (g : ℕ → ℕ → ℕ) → ((x y : ℕ) → g x y ≤ 255) → (u y : ℕ) → nat_abs (held_row a g u y) ≤ 65536
+pub row_small : (a : Axis) (g : ℕ → ℕ → ℕ) → Light a → ((x y : ℕ) → g x y ≤ 255) → (u y : ℕ) → nat_abs (held_row a g u y) ≤ 65536
 unfolding held_row row_of
-row_small a g h u y =
+row_small a g l h u y =
     let s = axis_sum a (λ o. pos (g (u + o) y)) in
-    let e : nat_abs s ≤ 66854625 = le_trans (held_size_lem a.offsets a.weights (λ o. pos (g (u + o) y)) 255 (λ o. h (u + o) y) a.len) (mul-le-mul {n₂ = 262175} {m₂ = 255} a.size (omega arith)) in
+    let e : nat_abs s ≤ 66854625 = le_trans (held_size_lem a.offsets a.weights (λ o. pos (g (u + o) y)) 255 (λ o. h (u + o) y) a.len) (mul-le-mul {n₂ = 262175} {m₂ = 255} l.size (omega arith)) in
     floor_small (s +ℤ pos 512) _ (floor_law (s +ℤ pos 512) 1024 (omega arith)) (omega (arith, e, abs_add s (pos 512)))
 
 -- ---- row values in their place
@@ -105,10 +106,10 @@ module _ (across down : Axis) (w h first last : ℕ) (g : ℕ → ℕ → ℕ) w
   made = raster (λ u y. held_row across g u (first + y)) w (h + (last - first))
 
   -- all are small
-  pub made_small : ((x y : ℕ) → g x y ≤ 255) → (i : ℕ) → nat_abs (get_or made i (pos 0)) ≤ 65536
-  made_small b =
+  pub made_small : Light across → ((x y : ℕ) → g x y ≤ 255) → (i : ℕ) → nat_abs (get_or made i (pos 0)) ≤ 65536
+  made_small l b =
       pairs_at {R = λ (y x : ℤ). nat_abs y ≤ 65536} (pos 0) (pos 0) (omega arith)
-      (pairs_raster _ (λ u y. pos 0) w (h + (last - first)) (λ u y. row_small across g b u (first + y)))
+      (pairs_raster _ (λ u y. pos 0) w (h + (last - first)) (λ u y. row_small across g l b u (first + y)))
 
   -- a tap down finds the row value that it asks for
   pub made_level : Reaches down.offsets down.len first last → (u v : ℕ) → u < w → v < h

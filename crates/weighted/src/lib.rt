@@ -11,17 +11,17 @@ ghost use Rattle.frame.specs.Padded.{padded};
 ghost use Rattle.tap_sums.specs.HeldSums.{held_row, Reaches};
 
 use frame::Frame;
-use stage_values::Axis;
+use stage_values::LightAxis;
 use weighted_columns::Reach;
 
 // The rows that an axis reaches, its own among them.
-fn reach_of(axis: Axis) -> Reach
-    ensures { Reaches axis.offsets axis.len result.first result.last }
+fn reach_of(axis: LightAxis) -> Reach
+    ensures { Reaches axis.taps.offsets axis.taps.len result.first result.last }
 {
     let mut first = 15;
     let mut last = 15;
-    for k in 0..axis.len {
-        let place = axis.offsets[k] as usize;
+    for k in 0..axis.taps.len {
+        let place = axis.taps.offsets[k] as usize;
         first = first.min(place);
         last = last.max(place);
     }
@@ -29,9 +29,16 @@ fn reach_of(axis: Axis) -> Reach
 }
 
 // The row values of `count` rows, from place `first` on.
-fn all_rows(frame: Frame, plane: &[u8], axis: Axis, first: usize, count: usize, rows: &mut [i32])
+fn all_rows(
+    frame: Frame,
+    plane: &[u8],
+    axis: LightAxis,
+    first: usize,
+    count: usize,
+    rows: &mut [i32],
+)
     requires { Framed frame plane.now × (first ≤ 15) × (count ≤ 8222) × (count * frame.width ≤ length rows.old) }
-    ensures { rows.new ≡ raster (λ u y. held_row axis (padded frame plane.now) u (first + y)) frame.width count ++ drop (count * frame.width) rows.old }
+    ensures { rows.new ≡ raster (λ u y. held_row axis.taps (padded frame plane.now) u (first + y)) frame.width count ++ drop (count * frame.width) rows.old }
 {
     let w = frame.width;
     let mut row = [0u8; 8224];
@@ -42,9 +49,15 @@ fn all_rows(frame: Frame, plane: &[u8], axis: Axis, first: usize, count: usize, 
 }
 
 // A weighted stage on a plane, in place: the row values hold what it needs of the samples before. No row is made that no tap reaches.
-pub fn weighted_stage(frame: Frame, across: Axis, down: Axis, plane: &mut [u8], rows: &mut [i32])
+pub fn weighted_stage(
+    frame: Frame,
+    across: LightAxis,
+    down: LightAxis,
+    plane: &mut [u8],
+    rows: &mut [i32],
+)
     requires { Framed frame plane.old × ((frame.height + 30) * frame.width ≤ length rows.old) }
-    ensures { (K L : Kernel) → Ready K across → Ready L down → plane.new ≡ worked frame (weighted_result K L) plane.old }
+    ensures { (K L : Kernel) → Ready K across.taps → Ready L down.taps → plane.new ≡ worked frame (weighted_result K L) plane.old }
 {
     let w = frame.width;
     let h = frame.height;

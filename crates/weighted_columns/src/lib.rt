@@ -6,7 +6,7 @@ ghost use Rattle.integers.specs.Divide.{floor_div, clamp};
 ghost use Rattle.lists.specs.Tabulate.{tabulate, raster};
 ghost use Rattle.tap_sums.specs.HeldSums.{axis_sum, Reaches, level_of};
 
-use stage_values::Axis;
+use stage_values::LightAxis;
 
 // The half that rounds a sum to a level.
 const HALF: i64 = 2097152;
@@ -29,14 +29,14 @@ fn finish(sums: &[i64], n: usize, dst: &mut [u8])
 }
 
 // The sums for one row of the result. The rows at the front are those from place `first` of the taps on.
-fn column_sums(rows: &[i32], w: usize, first: usize, axis: Axis, sums: &mut [i64])
-    requires { (w ≤ 8192) × (w ≤ length sums.old) × ((i : ℕ) → i < axis.len → (first ≤ get_or axis.offsets i 0) × ((get_or axis.offsets i 0 - first) * w + w ≤ length rows.now)) × ((i : ℕ) → nat_abs (get_or rows.now i (pos 0)) ≤ 65536) }
-    ensures { sums.new ≡ tabulate (λ u. axis_sum axis (λ o. get_or rows.now ((o - first) * w + u) (pos 0)) +ℤ pos (2 ^ 21)) w ++ drop w sums.old }
+fn column_sums(rows: &[i32], w: usize, first: usize, axis: LightAxis, sums: &mut [i64])
+    requires { (w ≤ 8192) × (w ≤ length sums.old) × ((i : ℕ) → i < axis.taps.len → (first ≤ get_or axis.taps.offsets i 0) × ((get_or axis.taps.offsets i 0 - first) * w + w ≤ length rows.now)) × ((i : ℕ) → nat_abs (get_or rows.now i (pos 0)) ≤ 65536) }
+    ensures { sums.new ≡ tabulate (λ u. axis_sum axis.taps (λ o. get_or rows.now ((o - first) * w + u) (pos 0)) +ℤ pos (2 ^ 21)) w ++ drop w sums.old }
 {
     row_sums::start_at(sums, w, HALF);
-    for k in 0..axis.len {
-        let at = (axis.offsets[k] as usize - first) * w;
-        row_sums::add_tap(sums, w, &rows[at..], axis.weights[k]);
+    for k in 0..axis.taps.len {
+        let at = (axis.taps.offsets[k] as usize - first) * w;
+        row_sums::add_tap(sums, w, &rows[at..], axis.taps.weights[k]);
     }
 }
 
@@ -48,9 +48,16 @@ pub struct Reach {
 }
 
 // The levels of a plane of w by h, from row values whose first row is the first that is reached.
-pub fn all_columns(rows: &[i32], w: usize, h: usize, reach: Reach, axis: Axis, plane: &mut [u8])
-    requires { (w ≤ 8192) × (h ≤ 8192) × (length plane.old ≡ h * w) × Reaches axis.offsets axis.len reach.first reach.last × (length rows.now ≡ (h + (reach.last - reach.first)) * w) × ((i : ℕ) → nat_abs (get_or rows.now i (pos 0)) ≤ 65536) }
-    ensures { plane.new ≡ raster (λ u v. level_of (axis_sum axis (λ o. get_or rows.now ((v + (o - reach.first)) * w + u) (pos 0)))) w h }
+pub fn all_columns(
+    rows: &[i32],
+    w: usize,
+    h: usize,
+    reach: Reach,
+    axis: LightAxis,
+    plane: &mut [u8],
+)
+    requires { (w ≤ 8192) × (h ≤ 8192) × (length plane.old ≡ h * w) × Reaches axis.taps.offsets axis.taps.len reach.first reach.last × (length rows.now ≡ (h + (reach.last - reach.first)) * w) × ((i : ℕ) → nat_abs (get_or rows.now i (pos 0)) ≤ 65536) }
+    ensures { plane.new ≡ raster (λ u v. level_of (axis_sum axis.taps (λ o. get_or rows.now ((v + (o - reach.first)) * w + u) (pos 0)))) w h }
 {
     let mut sums = [0i64; 8192];
     for v in 0..h {

@@ -30,7 +30,7 @@ slice_bounds-taps_on-start c =
 
 pub taps_on-across-requires : goal.taps_on-across-requires
 taps_on-across-requires c =
-    let stands : Stands c.read_stage-stage.result (stage_of (drop 1 c.args.recipe.now)) = rw (tail_mid 1 c.args.recipe.now) at c.read_stage-stage.ensures in
+    let stands : Stands c.read_stage-stage.result (stage_of (drop 1 c.args.recipe.now)) = rw (tail_mid 1 c.args.recipe.now) at c.read_stage-stage.ensures.0 in
     (omega arith, rw (tail_mid 4 c.args.recipe.now) (tap_tests_lem c.requires.0 c.args.w c.args.h _ stands c.in-Weighted.is))
 
 pub slice_bounds-taps_on-count-in-Weighted : goal.slice_bounds-taps_on-count-in-Weighted
@@ -43,30 +43,30 @@ slice_bounds-taps_on-start-in-Weighted c =
 
 pub taps_on-down-requires : goal.taps_on-down-requires
 taps_on-down-requires c =
-    let stands : Stands c.read_stage-stage.result (stage_of (drop 1 c.args.recipe.now)) = rw (tail_mid 1 c.args.recipe.now) at c.read_stage-stage.ensures in
+    let stands : Stands c.read_stage-stage.result (stage_of (drop 1 c.args.recipe.now)) = rw (tail_mid 1 c.args.recipe.now) at c.read_stage-stage.ensures.0 in
     (omega arith, rw (tail_mid 4 c.args.recipe.now) (tap_tests_lem c.requires.0 c.args.w c.args.h _ stands c.in-Weighted.is))
 
 pub ratios_near-requires : goal.ratios_near-requires
 ratios_near-requires c =
-    let stands : Stands c.read_stage-stage.result (stage_of (drop 1 c.args.recipe.now)) = rw (tail_mid 1 c.args.recipe.now) at c.read_stage-stage.ensures in
+    let stands : Stands c.read_stage-stage.result (stage_of (drop 1 c.args.recipe.now)) = rw (tail_mid 1 c.args.recipe.now) at c.read_stage-stage.ensures.0 in
     let p = c.requires in
     (framed p.0 c.args.w c.args.h _ stands p.1 p.2, p.3, p.4)
 
 pub box_near-requires : goal.box_near-requires
 box_near-requires c =
-    let stands : Stands c.read_stage-stage.result (stage_of (drop 1 c.args.recipe.now)) = rw (tail_mid 1 c.args.recipe.now) at c.read_stage-stage.ensures in
+    let stands : Stands c.read_stage-stage.result (stage_of (drop 1 c.args.recipe.now)) = rw (tail_mid 1 c.args.recipe.now) at c.read_stage-stage.ensures.0 in
     let p = c.requires in
     (framed p.0 c.args.w c.args.h _ stands p.1 p.2, p.3, p.4)
 
 pub rank_near-requires : goal.rank_near-requires
 rank_near-requires c =
-    let stands : Stands c.read_stage-stage.result (stage_of (drop 1 c.args.recipe.now)) = rw (tail_mid 1 c.args.recipe.now) at c.read_stage-stage.ensures in
+    let stands : Stands c.read_stage-stage.result (stage_of (drop 1 c.args.recipe.now)) = rw (tail_mid 1 c.args.recipe.now) at c.read_stage-stage.ensures.0 in
     let p = c.requires in
     (framed p.0 c.args.w c.args.h _ stands p.1 p.2, p.3, p.4)
 
 pub returns-in-Weighted : goal.returns-in-Weighted
 returns-in-Weighted c =
-    let stands : Stands c.read_stage-stage.result (stage_of (drop 1 c.args.recipe.now)) = rw (tail_mid 1 c.args.recipe.now) at c.read_stage-stage.ensures in
+    let stands : Stands c.read_stage-stage.result (stage_of (drop 1 c.args.recipe.now)) = rw (tail_mid 1 c.args.recipe.now) at c.read_stage-stage.ensures.0 in
     let a = c.args in
     let r = a.recipe.now in
     c.ratios_near.ensures
@@ -74,17 +74,17 @@ returns-in-Weighted c =
 
 pub returns-in-Boxed : goal.returns-in-Boxed
 returns-in-Boxed c =
-    let stands : Stands c.read_stage-stage.result (stage_of (drop 1 c.args.recipe.now)) = rw (tail_mid 1 c.args.recipe.now) at c.read_stage-stage.ensures in
+    let stands : Stands c.read_stage-stage.result (stage_of (drop 1 c.args.recipe.now)) = rw (tail_mid 1 c.args.recipe.now) at c.read_stage-stage.ensures.0 in
     let a = c.args in
     c.box_near.ensures ∙ box-same c.requires.0 a.w a.h _ stands c.in-Boxed.is a.c a.channel a.received.now a.plane.now
 
 pub returns-in-Ranked : goal.returns-in-Ranked
 returns-in-Ranked c =
-    let stands : Stands c.read_stage-stage.result (stage_of (drop 1 c.args.recipe.now)) = rw (tail_mid 1 c.args.recipe.now) at c.read_stage-stage.ensures in
+    let stands : Stands c.read_stage-stage.result (stage_of (drop 1 c.args.recipe.now)) = rw (tail_mid 1 c.args.recipe.now) at c.read_stage-stage.ensures.0 in
     let a = c.args in
     c.rank_near.ensures ∙ rank_same c.requires.0 a.w a.h _ stands c.in-Ranked.is a.c a.channel a.received.now a.plane.now
 
 pub returns-in-Outlined : goal.returns-in-Outlined
 returns-in-Outlined c =
-    let stands : Stands c.read_stage-stage.result (stage_of (drop 1 c.args.recipe.now)) = rw (tail_mid 1 c.args.recipe.now) at c.read_stage-stage.ensures in
+    let stands : Stands c.read_stage-stage.result (stage_of (drop 1 c.args.recipe.now)) = rw (tail_mid 1 c.args.recipe.now) at c.read_stage-stage.ensures.0 in
     absurd (never_outlined c.requires.0 c.args.w c.args.h _ stands c.in-Outlined.is)

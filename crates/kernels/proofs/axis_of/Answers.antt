@@ -1,6 +1,6 @@
 -- `kernels::axis_of` meets its contract. Assumes nothing.
 use native.Mathlib.Omega.{arith}
-use Rattle.kernels.proofs.Units.{magnitude-is, value_small, size_limited, axis_ready}
+use Rattle.kernels.proofs.Units.{magnitude-is, value_small, axis_ready}
 use Rattle.kernels.proofs.axis_of.Goals as goal
 
 pub shares-shared-requires : goal.shares-shared-requires
@@ -18,15 +18,7 @@ scaled_gain-gain-requires c =
     let k = c.args.k in
     (l.some, l.few, omega (arith, c.magnitude.ensures, magnitude-is k.offsets k.values k.len, l.gain))
 
-pub invariant_of-result : goal.invariant_of-result
-invariant_of-result c =
-    let l = c.requires in
-    let k = c.args.k in
-    let s = c.shares-shared.ensures in
-    record { few = l.taps; near = l.near; size = size_limited k.divisor k.offsets k.values k.len _ _ _ _ l s.1 s.2 c.magnitude.ensures c.scaled_gain-gain.ensures s.0 }
-
 pub returns : goal.returns
 returns c =
     let k = c.args.k in
-    let s = c.shares-shared.ensures in
-    axis_ready k.divisor k.offsets k.values k.len _ _ _ _ c.requires s.1 s.2 c.magnitude.ensures c.scaled_gain-gain.ensures s.0
+    axis_ready k.divisor k.offsets k.values k.len _ _ _ _ c.requires c.shares-shared.ensures.1 c.shares-shared.ensures.2 c.magnitude.ensures c.scaled_gain-gain.ensures

@@ -4,6 +4,7 @@ use native.Mathlib.Nat.{mul-le-mul}
 use native.Mathlib.Omega.{arith}
 use mathlib.Core.Path.{sym, ◌∙◌}
 use lib.ListN.{take, length-take}
+use Rattle.kernels.proofs.Sizes.{ready_light}
 use Rattle.one_stage.proofs.Planes.{front_frame, front_put, weighted_does, weighted_plane, box_plane, box-room, rank_plane, outline_plane}
 use Rattle.one_stage.proofs.run_stage.Goals as goal
 
@@ -14,6 +15,18 @@ overflow_mul-n c =
 pub slice_bounds-weighted_stage-end-in-Weighted : goal.slice_bounds-weighted_stage-end-in-Weighted
 slice_bounds-weighted_stage-end-in-Weighted c =
     let a = c.args in sym (length-take (a.h * a.w) a.work.now ∙ omega (arith, c.requires.4))
+
+pub invariant_of-across : goal.invariant_of-across
+invariant_of-across c =
+    let a = c.args in
+    let d = weighted_does a.w a.h a.s (take (a.h * a.w) a.work.now) c.requires.6.0 c.requires.6.1 c.in-Weighted.is in
+    record { light = ready_light d.3 }
+
+pub invariant_of-down : goal.invariant_of-down
+invariant_of-down c =
+    let a = c.args in
+    let d = weighted_does a.w a.h a.s (take (a.h * a.w) a.work.now) c.requires.6.0 c.requires.6.1 c.in-Weighted.is in
+    record { light = ready_light d.4 }
 
 pub weighted_stage-requires : goal.weighted_stage-requires
 weighted_stage-requires c =

@@ -61,7 +61,7 @@ returns-in_err-tests c =
 
 pub after-total-requires : goal.after-total-requires
 after-total-requires c =
-    (c.loop.invariant.cut, (_, c.read_stage.ensures))
+    (c.loop.invariant.cut, (_, c.read_stage.ensures.0))
 
 pub loop-preserved : goal.loop-preserved
 loop-preserved c =
@@ -72,7 +72,7 @@ loop-preserved c =
     record {
       inside = omega (arith, s.1, ap length m, length-drop L.at b, L.invariant.inside);
       cut = c.after-total.ensures.0;
-      rest = L.invariant.rest ∙ stage-more b _ L.counter L.at L.total.units c.loop-test.true (rw (← m) (sym c.in_ok-tests.ensures)) ∙ rw (c.after-total.ensures.1 _ c.read_stage.ensures, s.0, m);
+      rest = L.invariant.rest ∙ stage-more b _ L.counter L.at L.total.units c.loop-test.true (rw (← m) (sym c.in_ok-tests.ensures)) ∙ rw (c.after-total.ensures.1 _ c.read_stage.ensures.0, s.0, m);
     }
 
 pub returns-then-at-recipe : goal.returns-then-at-recipe

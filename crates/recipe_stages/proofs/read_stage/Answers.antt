@@ -35,5 +35,6 @@ pub returns : goal.returns
 unfolding stage_of stage
 returns c =
     let b = c.args.part.now in
-    let s = rw (tail_mid 3 b, c.kind_of.ensures) at c.stage_of.ensures in
-    record { border = s.border ∙ c.border_of-border.ensures; value = s.value; work = s.work }
+    let e = c.stage_of.ensures in
+    let s = rw (tail_mid 3 b, c.kind_of.ensures) at e.0 in
+    (record { border = s.border ∙ c.border_of-border.ensures; value = s.value; work = s.work }, e.1, e.2)

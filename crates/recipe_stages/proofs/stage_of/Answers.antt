@@ -9,8 +9,5 @@ pub returns : goal.returns
 unfolding stage
 returns c =
     let a = c.args in
-    record {
-      border = refl;
-      value = refl;
-      work = work_does a.part.now (number a.kind) c.work_for.result c.work_for.ensures _ c.axis_for.ensures c.axis_for-2.ensures;
-    }
+    let does = work_does a.part.now (number a.kind) c.work_for.result c.work_for.ensures _ c.axis_for.ensures.0 c.axis_for-2.ensures.0 in
+    (record { border = refl; value = refl; work = does }, c.axis_for.ensures.1, c.axis_for-2.ensures.1)

@@ -42,7 +42,7 @@ loop-preserved c =
     let n = c.stage_length.ensures in
     record {
       left = rw (tail_mid c.stage_length.result b) (next_rest L.invariant.left t c.stage_length.result n.0 n.1 n.2);
-      most = L.invariant.most ∙ rw (next_stages L.invariant.left t, tail_mid c.stage_length.result b, n.0, c.max-need.ensures) (need_more c.args.w _ _ L.need _ (c.work_sums.ensures _ c.read_stage-stage.ensures));
+      most = L.invariant.most ∙ rw (next_stages L.invariant.left t, tail_mid c.stage_length.result b, n.0, c.max-need.ensures) (need_more c.args.w _ _ L.need _ (c.work_sums.ensures _ c.read_stage-stage.ensures.0));
     }
 
 pub returns : goal.returns

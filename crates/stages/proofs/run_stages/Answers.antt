@@ -48,7 +48,7 @@ run_stage-requires c =
       p.height.1,
       rw (mul_comm c.args.h c.args.w) (omega (arith, I.work-length, p.enough-work)),
       rw (mul_comm (c.args.h + 30) c.args.w) (omega (arith, I.rows-length, p.enough-rows)),
-      (_, c.read_stage-stage.ensures, first_fits _ _ _ (rw (next_stages I.left c.loop-test.true) at I.enough-sums)),
+      (_, c.read_stage-stage.ensures.0, first_fits _ _ _ (rw (next_stages I.left c.loop-test.true) at I.enough-sums)),
     )
 
 pub stage_length-requires : goal.stage_length-requires
@@ -67,7 +67,7 @@ loop-preserved c =
     record {
       left = rw m (next_rest I.left t c.stage_length.result n.0 n.1 n.2);
       enough-sums = rw (m, n.0) (let f = rest_fit _ _ _ (rw e at I.enough-sums) in omega arith);
-      done = I.done ∙ rw (e, m, n.0) (chain_more _ _ _ _ _ _ (c.run_stage.ensures _ c.read_stage-stage.ensures));
+      done = I.done ∙ rw (e, m, n.0) (chain_more _ _ _ _ _ _ (c.run_stage.ensures _ c.read_stage-stage.ensures.0));
       work-length = omega arith;
       rows-length = omega arith;
     }

@@ -64,7 +64,7 @@ loop-y-preserved c =
     let next : (L.y + 1) * w ≡ at + w = omega arith in
     let long : w + 30 ≤ length L.row = omega (arith, L.invariant.1, p.0.width.1) in
     let e = c.padded_row.ensures in
-    let part = c.row_values.ensures ∙ ap (λ (l : List ℤ). l ++ drop w (take (length L.rows - at) (drop at L.rows))) (row-supplied a.axis w (a.first + L.y) (padded a.frame a.plane.now) L.row _ e) in
+    let part = c.row_values.ensures ∙ ap (λ (l : List ℤ). l ++ drop w (take (length L.rows - at) (drop at L.rows))) (row-supplied a.axis.taps w (a.first + L.y) (padded a.frame a.plane.now) L.row _ a.axis.light e) in
     (rw next (rows_stored_more L.invariant.0 c.loop-y-test.true _ p.3 part), rw e (L.invariant.1 ∙ sym (length_filled _ _ L.row long)))
 
 pub returns : goal.returns

@@ -15,8 +15,8 @@ pub loop-k-preserved : goal.loop-k-preserved
 loop-k-preserved c =
     let a = c.args in
     let L = c.loop-k in
-    reaches_more a.axis.offsets L.k L.first L.last _ _ L.invariant (a.axis.near L.k c.loop-k-test.true) (grind (arith, c.min-first.ensures)) (grind (arith, c.max-last.ensures))
+    reaches_more a.axis.taps.offsets L.k L.first L.last _ _ L.invariant (a.axis.light.near L.k c.loop-k-test.true) (grind (arith, c.min-first.ensures)) (grind (arith, c.max-last.ensures))
 
 pub returns : goal.returns
 returns c =
-    subst (λ (n : ℕ). Reaches c.args.axis.offsets n c.loop-k.first c.loop-k.last) (le_antisymm c.loop-k.auto.k-end c.loop-k-test.false) c.loop-k.invariant
+    subst (λ (n : ℕ). Reaches c.args.axis.taps.offsets n c.loop-k.first c.loop-k.last) (le_antisymm c.loop-k.auto.k-end c.loop-k-test.false) c.loop-k.invariant

@@ -3,4 +3,4 @@ use Rattle.tap_sums.specs.HeldSums.{Reaches}
 use Rattle.weighted.proofs.reach_of.Given as goal
 
 abbrev pub invariant-loop-k : goal.invariant-loop-k
-invariant-loop-k l = Reaches l.axis.offsets l.k l.first l.last
+invariant-loop-k l = Reaches l.axis.taps.offsets l.k l.first l.last

@@ -72,7 +72,7 @@ returns c =
     let r = c.reach_of-reach.result in
     let t = take-rows _ _ _ _ _ c.all_rows.ensures in
     λ K L x y. c.all_columns.ensures ∙ raster_ext _ _ f.width f.height (λ u v bu bv. rw t
-    (made_level a.across a.down f.width f.height r.first r.last (padded f a.plane.now) c.reach_of-reach.ensures u v bu bv
+    (made_level a.across.taps a.down.taps f.width f.height r.first r.last (padded f a.plane.now) c.reach_of-reach.ensures u v bu bv
     ∙ level_model x y f a.plane.now u v))
 
 pub all_columns-requires : goal.all_columns-requires
@@ -87,6 +87,6 @@ all_columns-requires c =
       p.0.whole,
       c.reach_of-reach.ensures,
       rw t (length-raster _ _ _),
-      rw t (made_small a.across a.down f.width f.height r.first r.last (padded f a.plane.now)
+      rw t (made_small a.across.taps a.down.taps f.width f.height r.first r.last (padded f a.plane.now) a.across.light
           (λ x y. padded-le f a.plane.now x y (omega (arith, c.well_formed)) (λ i. let byte : Fits w8 (get_or a.plane.now i 0) = search rules depth 1 in omega arith))),
     )

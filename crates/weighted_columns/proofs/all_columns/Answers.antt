@@ -45,7 +45,7 @@ column_sums-requires c =
     let R = a.rows.now in (
       p.0,
       omega (arith, p.0, L.invariant.1),
-      λ i b. ((p.3.all i b).0, rw (tail_mid at R, length-drop) (omega (arith, column_fits L.v a.h (get_or a.axis.offsets i 0) a.reach.first a.reach.last a.w c.loop-v-test.true (p.3.all i b).1, p.4))),
+      λ i b. ((p.3.all i b).0, rw (tail_mid at R, length-drop) (omega (arith, column_fits L.v a.h (get_or a.axis.taps.offsets i 0) a.reach.first a.reach.last a.w c.loop-v-test.true (p.3.all i b).1, p.4))),
       λ i. rw (tail_mid at R, get_or-drop at R i (pos 0)) (p.5 _),
     )
 
@@ -81,7 +81,7 @@ loop-v-preserved c =
     let next : (L.v + 1) * a.w ≡ at + a.w = omega arith in
     let long : a.w ≤ length L.sums = omega (arith, L.invariant.1, p.0) in
     let e = c.column_sums.ensures in
-    let part = c.finish.ensures ∙ ap (λ (l : List ℕ). l ++ drop a.w (take (length L.plane - at) (drop at L.plane))) (level-row a.axis a.w a.reach.first a.rows.now L.v at L.sums _ L.invariant.0.place e) in
+    let part = c.finish.ensures ∙ ap (λ (l : List ℕ). l ++ drop a.w (take (length L.plane - at) (drop at L.plane))) (level-row a.axis.taps a.w a.reach.first a.rows.now L.v at L.sums _ L.invariant.0.place e) in
     (rw next (rows_stored_more L.invariant.0 c.loop-v-test.true _ (omega (arith, p.2)) part), rw e (L.invariant.1 ∙ sym (length_filled _ _ L.sums long)))
 
 pub returns : goal.returns

@@ -7,4 +7,4 @@ use Rattle.tap_sums.proofs.PartialSums.{level_at}
 use Rattle.weighted_columns.proofs.all_columns.Given as goal
 
 abbrev pub invariant-loop-v : goal.invariant-loop-v
-invariant-loop-v l = StoredRows (level_at l.axis l.w l.reach.first l.rows) l.w l.h l.initial.plane l.plane (l.v * l.w) l.v × (8192 ≡ length l.sums)
+invariant-loop-v l = StoredRows (level_at l.axis.taps l.w l.reach.first l.rows) l.w l.h l.initial.plane l.plane (l.v * l.w) l.v × (8192 ≡ length l.sums)

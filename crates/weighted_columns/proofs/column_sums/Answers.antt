@@ -32,11 +32,11 @@ overflow_sub-at c =
 
 pub overflow_mul-at : goal.overflow_mul-at
 overflow_mul-at c =
-    record { fits = omega (arith, small-place (get_or c.args.axis.offsets c.loop-k.k 0) c.args.first c.args.w (c.args.axis.near c.loop-k.k c.loop-k-test.true) c.requires.0) }
+    record { fits = omega (arith, small-place (get_or c.args.axis.taps.offsets c.loop-k.k 0) c.args.first c.args.w (c.args.axis.light.near c.loop-k.k c.loop-k-test.true) c.requires.0) }
 
 pub offset_bounds-rows-at : goal.offset_bounds-rows-at
 offset_bounds-rows-at c =
-    record { fits = omega (arith, small-place (get_or c.args.axis.offsets c.loop-k.k 0) c.args.first c.args.w (c.args.axis.near c.loop-k.k c.loop-k-test.true) c.requires.0) }
+    record { fits = omega (arith, small-place (get_or c.args.axis.taps.offsets c.loop-k.k 0) c.args.first c.args.w (c.args.axis.light.near c.loop-k.k c.loop-k-test.true) c.requires.0) }
 
 pub slice_bounds-add_tap-count : goal.slice_bounds-add_tap-count
 slice_bounds-add_tap-count c =
@@ -52,14 +52,14 @@ add_tap-requires c =
     let L = c.loop-k in
     let t = c.loop-k-test.true in
     let p = c.requires in
-    let at = (get_or a.axis.offsets L.k 0 - a.first) * a.w in
-    let weight : to_z w32 (of_z w32 (get_or a.axis.weights L.k (pos 0))) ≡ get_or a.axis.weights L.k (pos 0) = search rules in (
+    let at = (get_or a.axis.taps.offsets L.k 0 - a.first) * a.w in
+    let weight : to_z w32 (of_z w32 (get_or a.axis.taps.weights L.k (pos 0))) ≡ get_or a.axis.taps.weights L.k (pos 0) = search rules in (
       omega (arith, p.1),
       rw (tail_mid at a.rows.now, length-drop) (omega (arith, (p.2 L.k t).1)),
-      rw weight (omega (arith, weight_size a.axis.weights L.k a.axis.len t, a.axis.size)),
+      rw weight (omega (arith, weight_size a.axis.taps.weights L.k a.axis.taps.len t, a.axis.light.size)),
       λ u b. (
         rw (filled_at _ a.w _ L.sums (pos 0) u L.invariant b)
-            (omega (arith, partial_size a.axis.offsets a.axis.weights (at_offset a.rows.now a.w a.first) (pos 2097152) 65536 (λ v o. p.3 _) L.k a.axis.len (omega (arith, t)) a.axis.size u)),
+            (omega (arith, partial_size a.axis.taps.offsets a.axis.taps.weights (at_offset a.rows.now a.w a.first) (pos 2097152) 65536 (λ v o. p.3 _) L.k a.axis.taps.len (omega (arith, t)) a.axis.light.size u)),
         rw (shifted a.rows.now at u (pos 0)) (omega (arith, p.3 (u + at))),
       ),
     )
@@ -68,9 +68,9 @@ pub loop-k-preserved : goal.loop-k-preserved
 loop-k-preserved c =
     let a = c.args in
     let L = c.loop-k in
-    let at = (get_or a.axis.offsets L.k 0 - a.first) * a.w in
-    let weight : to_z w32 (of_z w32 (get_or a.axis.weights L.k (pos 0))) ≡ get_or a.axis.weights L.k (pos 0) = search rules in
-    partial_more a.axis.offsets a.axis.weights (at_offset a.rows.now a.w a.first) (pos 2097152) L.k a.w _ L.sums _ _ _ weight
+    let at = (get_or a.axis.taps.offsets L.k 0 - a.first) * a.w in
+    let weight : to_z w32 (of_z w32 (get_or a.axis.taps.weights L.k (pos 0))) ≡ get_or a.axis.taps.weights L.k (pos 0) = search rules in
+    partial_more a.axis.taps.offsets a.axis.taps.weights (at_offset a.rows.now a.w a.first) (pos 2097152) L.k a.w _ L.sums _ _ _ weight
     (λ u b. shifted a.rows.now at u (pos 0) ∙ ap (λ (i : ℕ). get_or a.rows.now i (pos 0)) (add_comm u at)) L.invariant c.add_tap.ensures
 
 pub returns : goal.returns

@@ -13,4 +13,4 @@ abbrev pub at_offset : List ℤ → ℕ → ℕ → ℕ → ℕ → ℤ
 at_offset rows w first u o = get_or rows ((o - first) * w + u) (pos 0)
 
 abbrev pub invariant-loop-k : goal.invariant-loop-k
-invariant-loop-k l = l.sums ≡ tabulate (partial l.axis.offsets l.axis.weights (at_offset l.rows l.w l.first) (pos 2097152) l.k) l.w ++ drop l.w l.initial.sums
+invariant-loop-k l = l.sums ≡ tabulate (partial l.axis.taps.offsets l.axis.taps.weights (at_offset l.rows l.w l.first) (pos 2097152) l.k) l.w ++ drop l.w l.initial.sums

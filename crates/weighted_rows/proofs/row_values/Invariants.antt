@@ -13,4 +13,4 @@ abbrev pub at_offset : List ℕ → ℕ → ℕ → ℤ
 at_offset row u o = pos (get_or row (u + o) 0)
 
 abbrev pub invariant-loop-k : goal.invariant-loop-k
-invariant-loop-k l = l.sums ≡ tabulate (partial l.axis.offsets l.axis.weights (at_offset l.row) (pos 512) l.k) l.n ++ drop l.n l.initial.sums
+invariant-loop-k l = l.sums ≡ tabulate (partial l.axis.taps.offsets l.axis.taps.weights (at_offset l.row) (pos 512) l.k) l.n ++ drop l.n l.initial.sums
