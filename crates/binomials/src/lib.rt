@@ -62,6 +62,7 @@ fn numerators(r: usize) -> [u64; 31]
 }
 
 // C(2r, k) over 4^r at offset k - r.
+#[inline(never)]
 pub fn binomial_kernel(r: usize) -> Kernel
     requires { r ≤ 15 }
     ensures { (result.len ≡ 2 * r + 1) × (kernel_of result.divisor result.offsets result.values result.len ≡ binomial r) × Limits result.divisor result.offsets result.values result.len }

@@ -21,6 +21,7 @@ pub struct Frame {
 }
 
 // The sample of a row that is supplied at place x.
+#[inline(always)]
 fn sample(frame: Frame, row: &[u8], x: usize) -> u8
     requires { (1 ≤ frame.width) × (frame.width ≤ 8192) × (frame.width ≤ length row.now) × (x ≤ 16384) }
     ensures { result ≡ row_sample frame row.now x }

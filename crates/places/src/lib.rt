@@ -68,6 +68,7 @@ fn wrapped(n: usize, x: usize) -> usize
 }
 
 // The index, 0 to n - 1, that is supplied at place x of an axis; none where the border value is.
+#[inline(always)]
 pub fn place(border: Border, n: usize, x: usize) -> Option<usize>
     requires { (1 ≤ n) × (n ≤ 8192) × (x ≤ 16384) }
     ensures { result ≡ place_of (supply (border_is border) n (offset_of x)) }

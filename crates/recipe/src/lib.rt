@@ -14,6 +14,7 @@ use stage_values::{Stage, Work};
 use tolerance::Tolerance;
 
 // The tolerance after one more stage.
+#[inline(always)]
 fn after(total: Tolerance, s: Stage) -> Tolerance
     requires { (total.units ≤ 16711680) × ((t : Model.Stage) × Stands s t) }
     ensures { (result.units ≤ 16711680) × ((t : Model.Stage) → Stands s t → result.units ≡ after_stage total.units t) }

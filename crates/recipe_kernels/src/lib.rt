@@ -35,6 +35,7 @@ fn taps_before(part: &[u8], axis: usize) -> usize
 }
 
 // The kernel of an axis, 0 across and 1 down.
+#[inline(never)]
 pub fn kernel_on(part: &[u8], real: bool, axis: usize) -> Kernel
     requires { (axis ≤ 1) × (verdict (tap_tests real part.now) ≡ Ok tt) }
     ensures { Holds result.offsets result.values result.len result.divisor (kernel_on real axis part.now) × Kept result.values result.len result.divisor }

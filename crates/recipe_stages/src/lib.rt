@@ -83,6 +83,7 @@ fn border_of(b: u8) -> Border
 }
 
 // An axis without taps.
+#[inline(always)]
 fn no_axis() -> Axis
     ensures { Light result }
 {
@@ -96,6 +97,7 @@ fn no_axis() -> Axis
 }
 
 // An axis of the stage of a kind, 0 across and 1 down, after its header bytes: without taps where the stage has no kernels.
+#[inline(always)]
 fn axis_for(part: &[u8], kind: Kind, axis: usize) -> Axis
     requires { (axis ≤ 1) × (verdict (work_tests (number kind) part.now) ≡ Ok tt) }
     ensures { (number kind ≤ 3 → Ready (kernel_for (number kind) axis part.now) result) × Light result }
@@ -120,6 +122,7 @@ fn window_at(part: &[u8]) -> Window
 }
 
 // The work of the stage of a kind, after its header bytes.
+#[inline(always)]
 fn work_for(part: &[u8], kind: Kind) -> Work
     requires { verdict (work_tests (number kind) part.now) ≡ Ok tt }
     ensures { WorkFor (number kind) part.now result }
@@ -136,6 +139,7 @@ fn work_for(part: &[u8], kind: Kind) -> Work
 }
 
 // The stage of a kind, after its header bytes.
+#[inline(always)]
 fn stage_of(part: &[u8], kind: Kind, border: Border, value: u8) -> Stage
     requires { verdict (work_tests (number kind) part.now) ≡ Ok tt }
     ensures { Stands result (stage (border_is border) value (work_of (number kind) part.now)) × Light result.across × Light result.down }
@@ -150,6 +154,7 @@ fn stage_of(part: &[u8], kind: Kind, border: Border, value: u8) -> Stage
 }
 
 // The stage at the front of a part, by value.
+#[inline(always)]
 pub fn read_stage(part: &[u8]) -> Stage
     requires { verdict (stage_tests part.now) ≡ Ok tt }
     ensures { Stands result (stage_of part.now) × Light result.across × Light result.down }
