@@ -14,6 +14,7 @@ use Rattle.recipe_kernels.specs.Kernels.{weighted_work}
 use Rattle.stage_fields.specs.StageFields.{head_tests, radius_tests, position_tests}
 use Rattle.recipe_stages.specs.StageBytes.{work_tests, work_of, stage_tests, kernel_for, WorkFor}
 use Rattle.stage_values.specs.declared.Window.{Window}
+use Rattle.stage_values.specs.declared.Rank.{Rank}
 use Rattle.stage_values.specs.declared.Work as Code
 use Rattle.stage_values.specs.declared.Work.TheVariants.{Weighted, Boxed, Ranked, Outlined}
 use Rattle.stage_values.specs.Ready.{Ready}
@@ -63,19 +64,6 @@ module _ (b : List ℕ) where
   unfolding work_tests
   position-kind e = position_passed b (all_append (radius_tests b) (position_tests b) (all_pass (radius_tests b ++ position_tests b) e)).1
 
-  -- kinds 4 to 6: the tests bound the radii and the position, so that the work of the bytes can be held
-  window_passes : (kind : ℕ) → 4 ≤ kind → kind ≤ 6 → verdict (work_tests kind b) ≡ Ok tt → (w : Code.Work) × WorkFor kind b w
-  window_passes zero l h e = absurd (omega arith)
-  window_passes (suc zero) l h e = absurd (omega arith)
-  window_passes (suc (suc zero)) l h e = absurd (omega arith)
-  window_passes (suc (suc (suc zero))) l h e = absurd (omega arith)
-  window_passes (suc (suc (suc (suc zero)))) l h e = (Boxed (window 4 (omega arith) (omega arith) e), (refl, refl, refl))
-  window_passes (suc (suc (suc (suc (suc zero))))) l h e =
-      let p = position-kind e in
-      (Ranked (record { window = window 5 (omega arith) (omega arith) e; position = word b 2; inside = (p.0, p.1) }), (refl, refl, refl, refl))
-  window_passes (suc (suc (suc (suc (suc (suc zero)))))) l h e = (Outlined, refl)
-  window_passes (suc (suc (suc (suc (suc (suc (suc k))))))) l h e = absurd (omega arith)
-
   -- the work is that of the bytes: a box's, a rank's or an outline's by itself, and a weighted one's with both axes
   pub held_does : (kind : ℕ) → 4 ≤ kind → (w : Code.Work) → WorkFor kind b w → (s : Stage) → Does w s (work_of kind b)
   unfolding work_of
@@ -86,7 +74,19 @@ module _ (b : List ℕ) where
 
   -- kinds 4 to 6: the tests bound the radii and the position, so a stage that passes has the work of its bytes, which does the model's
   pub window_does : (kind : ℕ) → 4 ≤ kind → kind ≤ 6 → verdict (work_tests kind b) ≡ Ok tt → (w : Code.Work) × WorkFor kind b w × ((s : Stage) → Does w s (work_of kind b))
-  window_does kind l h e = let p = window_passes kind l h e in (p.0, p.1, held_does kind l p.0 p.1)
+  window_does zero l h e = absurd (omega arith)
+  window_does (suc zero) l h e = absurd (omega arith)
+  window_does (suc (suc zero)) l h e = absurd (omega arith)
+  window_does (suc (suc (suc zero))) l h e = absurd (omega arith)
+  window_does (suc (suc (suc (suc zero)))) l h e =
+      let x : Window = window 4 (omega arith) (omega arith) e in
+      (Boxed x, (refl, refl, refl), held_does 4 (omega arith) (Boxed x) (refl, refl, refl))
+  window_does (suc (suc (suc (suc (suc zero))))) l h e =
+      let p = position-kind e in
+      let x : Rank = record { window = window 5 (omega arith) (omega arith) e; position = word b 2; inside = (p.0, p.1) } in
+      (Ranked x, (refl, refl, refl, refl), held_does 5 (omega arith) (Ranked x) (refl, refl, refl, refl))
+  window_does (suc (suc (suc (suc (suc (suc zero)))))) l h e = (Outlined, refl, held_does 6 (omega arith) Outlined refl)
+  window_does (suc (suc (suc (suc (suc (suc (suc k))))))) l h e = absurd (omega arith)
 
   pub work_does : (kind : ℕ) (w : Code.Work) → WorkFor kind b w → (s : Stage) → (kind ≤ 3 → Ready (kernel_for kind 0 b) s.across) → (kind ≤ 3 → Ready (kernel_for kind 1 b) s.down) → Does w s (work_of kind b)
   work_does kind Weighted h s across down = (kernel_for kind 0 b, kernel_for kind 1 b, kernels_kind kind h.0 h.1, across h.1, down h.1)
