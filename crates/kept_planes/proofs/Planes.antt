@@ -1,21 +1,36 @@
 -- Two planes in one buffer: a copy behind the one that is written, which is written row by row. Assumes nothing.
 use Prim.Native.Nat.{ℕ, ◌+◌, ◌-◌, ◌*◌, ◌≤◌, ◌<◌}
-use native.Mathlib.Nat.{le_refl, zero-mul, mul-le-mul_right}
+use native.Mathlib.Nat.{le_refl, le_trans, min-le_left, lt_of_not-le, zero-mul, mul-le-mul, mul-le-mul_right}
+use native.Mathlib.Decide.{dec_le}
 use native.Mathlib.Omega.{arith}
 use mathlib.Core.Path.{◌≡◌, refl, sym, ◌∙◌}
 use mathlib.Core.List.{List, ◌++◌, append-nil, append_assoc}
-use lib.ListN.{length, take, drop, length-append, length-drop, drop_of_length-le}
-use lib.Seq.{length-take-le, take_at, drop_at}
+use lib.ListN.{length, get_or, take, drop, length-append, length-take, length-drop, get_or-eq_default, drop_of_length-le}
+use lib.Seq.{length-take-le, get_or-take, get_or-drop, take_at, drop_at}
 use Rattle.lists.specs.Tabulate.{tabulate, raster}
 use Rattle.lists.proofs.Part.{drop_past}
 use Rattle.lists.proofs.Raster.{row_fits, length-raster, rows_none, rows_more}
 use Rattle.lists.proofs.Stored.{StoredRows}
+use Rattle.model.specs.Sound.{Bytes}
 use Rattle.frame.specs.declared.Frame.{Frame}
+use Rattle.frame.specs.Framed.{Framed}
 use Rattle.kept_planes.specs.HeldRow.{kept}
 
 -- after a copy the plane behind is what the front plane was
 pub behind_copied : (n : ℕ) (d l : List ℕ) → n ≤ length d → l ≡ take n d ++ take n d ++ drop (n + n) d → take n (drop n l) ≡ take n d
 behind_copied n d l h e = rw (e, append_assoc, drop_at (take n d) _ n (length-take-le n d h), take_at (take n d) _ n (length-take-le n d h))
+
+-- a plane behind bytes has bytes
+pub kept_bytes : (n : ℕ) (work : List ℕ) → Bytes work → Bytes (take n (drop n work))
+kept_bytes n work h i = go (dec_le n i)
+  where
+    go : Dec (n ≤ i) → get_or (take n (drop n work)) i 0 ≤ 255
+    go (yes k) = rw (get_or-eq_default (take n (drop n work)) 0 {n = i} (le_trans (rw length-take (min-le_left n (length (drop n work)))) k)) (omega arith)
+    go (no k) = rw (get_or-take n (drop n work) i 0 (lt_of_not-le k), get_or-drop n work i 0) (h (n + i))
+
+-- no frame is large
+pub plane_small : {f : Frame} {samples : List ℕ} → Framed f samples → f.height * f.width ≤ 67108864
+plane_small h = mul-le-mul {n₂ = 8192} {m₂ = 8192} h.height.1 h.width.1
 
 -- and rows of the plane in front leave it as it was
 pub kept_same : (f : Frame) (g : ℕ → ℕ → ℕ) (d l : List ℕ) {at v : ℕ} → StoredRows g f.width f.height d l at v → kept f l ≡ kept f d
